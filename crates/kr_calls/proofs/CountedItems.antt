@@ -9,7 +9,7 @@ use Rattle.kr_defs.specs.declared.limits.TheConstants.{PLACES_END}
 use Rattle.kr_defs.specs.declared.record.Item.{Item}
 use Rattle.kr_defs.specs.Guard.{and_then}
 use Rattle.kr_defs.specs.LogStates.{LogState, apply_all_at, apply_at}
-use Rattle.kr_calls.specs.SeatList.{Reached, item_entries, reached_with, with_state}
+use Rattle.kr_calls.specs.SeatList.{Reached, item_entries, reached_with, with_outcome}
 
 next_place : (place n : ℕ) → (place + 1) + n ≡ place + suc n
 next_place place n = omega arith
@@ -31,7 +31,7 @@ all_count state after place [] all low =
     ap (λ s. at s place) same ∙ ap (λ n. at after n) end
 all_count state after place (x ∷ xs) all low =
     elim (apply_at state place x) as (λ (res : Result LogState Ill). and_then res (λ next. apply_all_at next (place + 1) xs) ≡ Ok after
-    → fold reached_with (cond (int_eq (pos place) (pos place) && int_lt (pos place) PLACES_END) (with_state (at state place) (pos place +ℤ pos 1) res) (at state place)) (item_entries (pos (place + 1)) xs) ≡ at after (place + suc (length xs))) [
+    → fold reached_with (cond (int_eq (pos place) (pos place) && int_lt (pos place) PLACES_END) (with_outcome (at state place) (pos place +ℤ pos 1) res) (at state place)) (item_entries (pos (place + 1)) xs) ≡ at after (place + suc (length xs))) [
       | Ok next ↦ λ h.
           ap (λ b. fold reached_with (cond b (at next (place + 1)) (at state place)) (item_entries (pos (place + 1)) xs)) (stands place (is_low place (length xs) low))
           ∙ (all_count next after (place + 1) xs h (subst (λ n. pos n ≤ℤ PLACES_END) (sym (next_place place (length xs))) low)

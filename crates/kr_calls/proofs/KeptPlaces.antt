@@ -17,7 +17,7 @@ use Rattle.kr_calls.specs.declared.events.Entry.{Entry}
 use Rattle.kr_calls.specs.declared.events.Entry.TheVariants as entries
 use Rattle.kr_calls.specs.declared.pins.Pin.{Pin}
 use Rattle.kr_calls.specs.Deciding.{apply_records}
-use Rattle.kr_calls.specs.SeatList.{PinnedLog, Reached, end_of, image_below, is_below, is_load, is_pinned, is_same_pin, nothing_pinned, nothing_reached, pinned_log, pinned_with, pins_in, pins_of, pins_with, reached, reached_with, with_image, with_state, without_pin}
+use Rattle.kr_calls.specs.SeatList.{PinnedLog, Reached, end_of, image_below, is_below, is_load, is_pinned, is_same_pin, nothing_pinned, nothing_reached, pinned_log, pinned_with, pins_in, pins_of, pins_with, reached, reached_with, with_image, with_outcome, without_pin}
 use Rattle.kr_calls.specs.SeatListLaws.{EndImages, KeptImagesStay, PinImages, PinsStay, unpins}
 
 -- ---- the end rises
@@ -31,7 +31,7 @@ not_lt_through x y z a b = grind (arith, ints)
 next_is_up : (place end : ℤ) → int_eq place end ≡ true → int_lt (place +ℤ pos 1) end ≡ false
 next_is_up place end is = let same : place ≡ end = (Decides-int_eq place end).0 is in grind (arith, ints)
 
-item_rises : (r : Reached) (place : ℤ) (result : Result LogState Ill) (at low : Bool) → int_eq place r.end ≡ at → int_lt (cond (at && low) (with_state r (place +ℤ pos 1) result) r).end r.end ≡ false
+item_rises : (r : Reached) (place : ℤ) (result : Result LogState Ill) (at low : Bool) → int_eq place r.end ≡ at → int_lt (cond (at && low) (with_outcome r (place +ℤ pos 1) result) r).end r.end ≡ false
 item_rises r place (Ok state) true true is = next_is_up place r.end is
 item_rises r place (Err cause) true true is = lt_itself r.end
 item_rises r place result true false is = lt_itself r.end
@@ -60,7 +60,7 @@ rises r (e ∷ es) = not_lt_through r.end (reached_with r e).end (fold reached_w
 past : (place p : ℤ) → int_lt p (place +ℤ pos 1) ≡ false → int_lt place p ≡ false → ⊥
 past place p a b = grind (arith, ints)
 
-item_alone : (p : ℤ) (r : Reached) (place : ℤ) (result : Result LogState Ill) (b : Bool) → int_lt p (cond b (with_state r (place +ℤ pos 1) result) r).end ≡ false → int_lt place p ≡ false → cond b (with_state r (place +ℤ pos 1) result) r ≡ r
+item_alone : (p : ℤ) (r : Reached) (place : ℤ) (result : Result LogState Ill) (b : Bool) → int_lt p (cond b (with_outcome r (place +ℤ pos 1) result) r).end ≡ false → int_lt place p ≡ false → cond b (with_outcome r (place +ℤ pos 1) result) r ≡ r
 item_alone p r place (Ok state) true up off = absurd (past place p up off)
 item_alone p r place (Err cause) true up off = refl
 item_alone p r place result false up off = refl
@@ -107,7 +107,7 @@ lower_not place p h = elim (int_eq place p) as (λ b. int_eq place p ≡ b → b
 stays : (p : ℤ) (state : LogState) (e : Entry) → is_load e ≡ false → fold reached_with (at state p) (filter (is_below p) (e ∷ [])) ≡ at state p
 stays p state (entries.Item place item) plain =
     elim (int_lt place p) as (λ b. int_lt place p ≡ b → fold reached_with (at state p) (cond b (entries.Item place item ∷ []) []) ≡ at state p) [
-      | true ↦ λ is. ap (λ b. cond (b && int_lt place PLACES_END) (with_state (at state p) (place +ℤ pos 1) (apply_at state (unsigned_abs place) item)) (at state p)) (lower_not place p is)
+      | true ↦ λ is. ap (λ b. cond (b && int_lt place PLACES_END) (with_outcome (at state p) (place +ℤ pos 1) (apply_at state (unsigned_abs place) item)) (at state p)) (lower_not place p is)
       | false ↦ λ is. refl
     ] refl
 stays p state (entries.Load offset records) plain = absurd (true≢false plain)

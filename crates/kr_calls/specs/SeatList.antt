@@ -33,14 +33,14 @@ abbrev pub nothing_reached : Reached
 nothing_reached = record { state = closed empty; end = pos 0 }
 
 -- what has no meaning changes nothing
-abbrev pub with_state : Reached → ℤ → Result LogState Ill → Reached
-with_state r end (Ok state) = record { state = state; end = end }
-with_state r end (Err cause) = r
+abbrev pub with_outcome : Reached → ℤ → Result LogState Ill → Reached
+with_outcome r end (Ok state) = record { state = state; end = end }
+with_outcome r end (Err cause) = r
 
 -- an item counts where it stands at the end
 abbrev pub with_item : Reached → ℤ → Item → Reached
 with_item r place item =
-    if int_eq place r.end && int_lt place PLACES_END then with_state r (place +ℤ pos 1) (apply_at r.state (unsigned_abs place) item) else r
+    if int_eq place r.end && int_lt place PLACES_END then with_outcome r (place +ℤ pos 1) (apply_at r.state (unsigned_abs place) item) else r
 
 -- no transaction is open in an image in place of all
 abbrev pub with_image : Reached → ℤ → Result Image Ill → Reached

@@ -11,7 +11,7 @@ use Rattle.kr_shared.specs.declared.answers.Aside.{Aside}
 use Rattle.kr_shared.specs.declared.answers.Asking.{Asking}
 use Rattle.kr_shared.specs.declared.taking.Given.{Given}
 use Rattle.kr_shared.specs.Answers.{aside_noted}
-use Rattle.kr_shared.specs.Desks.{HasSpare, IsCaughtUp, DeskState, DeskStands, added, aside_by, entered_by, settled, takes_writes}
+use Rattle.kr_shared.specs.Desks.{HasSpare, IsCaughtUp, DeskState, DeskStands, held_back, aside_by, entered_by, settled, takes_writes}
 use Rattle.kr_shared.specs.Gives.{GivesOut}
 use Rattle.kr_shared.specs.Lines.{HasLineRoom, LineView}
 use Rattle.kr_shared.specs.Serves.{ServesEvent}
@@ -82,7 +82,7 @@ module _ (w0 w1 w2 w3 w4 w5 w6 : DeskState) (lost : Bool)
     pub none_fresh : w5.fresh ≡ []
     none_fresh = fresh_left none_fresh_yet
 
-    pub kept_left : added w5 ≡ left_if lost w4.engine.committed (added w4) → w5.unstaged ≡ left_if lost w3.engine.committed w0.unstaged
+    pub kept_left : held_back w5 ≡ left_if lost w4.engine.committed (held_back w4) → w5.unstaged ≡ left_if lost w3.engine.committed w0.unstaged
     kept_left left =
         sym (append-nil w5.unstaged) ∙ ap (λ (es : List Entry). w5.unstaged ++ es) (sym none_fresh)
         ∙ (left
@@ -101,7 +101,7 @@ module _ (w0 w1 w2 w3 w4 w5 w6 : DeskState) (lost : Bool)
       (noted : w4.line.due ≡ w3.line.due ++ aside_noted aside given.refusal given.reply)
       (waiting : w4.line.waiting ≡ w3.line.waiting)
       (lost_is : lost ≡ (led && not (is_some w4.engine.leading)))
-      (left : added w5 ≡ left_if lost w4.engine.committed (added w4))
+      (left : held_back w5 ≡ left_if lost w4.engine.committed (held_back w4))
       (fresh_left : w4.fresh ≡ [] → w5.fresh ≡ []) where
     abbrev gives_then : GivesOut w1.engine w3.engine pieces pieces' faults faults' w2.line w3.line given
     gives_then = subst (λ (e : Core). GivesOut e w3.engine pieces pieces' faults faults' w2.line w3.line given) (ap (λ (w : DeskState). w.engine) two) gives
@@ -150,11 +150,11 @@ module _ (w0 w1 w2 w3 w4 : DeskState) (one : w1 ≡ record w0 { engine = w1.engi
 
   module _ (sf : DeskStands w0) (bare : AreNotes w0.line.due) (epoch : ℤ) (led : w0.engine.leading ≡ Some epoch) (given : Given) (pieces pieces' : Option (List (List ℕ))) (faults faults' : ℕ)
       (step : IsStep w0.engine w1.engine (events.Lost epoch)) (gives : GivesOut w1.engine w2.engine pieces pieces' faults faults' w1.line w2.line given)
-      (left : added w4 ≡ left_if true w3.engine.committed (added w3)) where
+      (left : held_back w4 ≡ left_if true w3.engine.committed (held_back w3)) where
     gives_so : GivesOut w1.engine w2.engine pieces pieces' faults faults' w0.line w2.line given
     gives_so = subst (λ (l : LineView). GivesOut w1.engine w2.engine pieces pieces' faults faults' l w2.line given) (ap (λ (w : DeskState). w.line) one) gives
 
-    cut_so : w4.unstaged ++ w4.fresh ≡ up_to_below w2.engine.committed (added w0)
+    cut_so : w4.unstaged ++ w4.fresh ≡ up_to_below w2.engine.committed (held_back w0)
     cut_so = left ∙ (λ i. up_to_below (three_steps i).engine.committed ((three_steps i).unstaged ++ (three_steps i).fresh))
 
     pub steps_lose : LosesLed pieces pieces' faults faults' (settled w0) (settled w4) (Some epoch)

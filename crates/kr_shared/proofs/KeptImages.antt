@@ -17,7 +17,7 @@ use Rattle.kr_calls.specs.declared.events.Entry.{Entry}
 use Rattle.kr_calls.specs.declared.events.Entry.TheVariants as entries
 use Rattle.kr_calls.specs.declared.pins.Pin.{Pin}
 use Rattle.kr_calls.specs.Deciding.{apply_records}
-use Rattle.kr_calls.specs.SeatList.{PinnedLog, Reached, image_below, is_below, is_kept_in, is_load, is_pinned, is_place_kept, is_same_pin, loads_of, loads_with, nothing_pinned, nothing_reached, pinned_log, pinned_with, pins_in, pins_with, reached_with, with_image, with_item, with_load, with_pin, with_state, without_pin}
+use Rattle.kr_calls.specs.SeatList.{PinnedLog, Reached, image_below, is_below, is_kept_in, is_load, is_pinned, is_place_kept, is_same_pin, loads_of, loads_with, nothing_pinned, nothing_reached, pinned_log, pinned_with, pins_in, pins_with, reached_with, with_image, with_item, with_load, with_pin, with_outcome, without_pin}
 use Rattle.kr_calls.specs.SeatListLaws.{KeptImagesStay}
 use Rattle.law_safety.proofs.SafeRequests.{valid_after}
 use Rattle.kr_view.specs.CopiesRule.{GoesOn}
@@ -28,7 +28,7 @@ use Rattle.kr_shared.specs.ImageWrites.{StillKept}
 valid_closed : (image : Image) → IsValid image → IsValidState (closed image)
 valid_closed image valid = record { image = valid; below = λ opened is. absurd cc }
 
-state_valid : (r : Reached) (end : ℤ) (result : Result LogState Ill) (b : Bool) → IsValidState r.state → Gives IsValidState result → IsValidState (cond b (with_state r end result) r).state
+state_valid : (r : Reached) (end : ℤ) (result : Result LogState Ill) (b : Bool) → IsValidState r.state → Gives IsValidState result → IsValidState (cond b (with_outcome r end result) r).state
 state_valid r end (Ok state) true valid gives = gives state refl
 state_valid r end (Err cause) true valid gives = valid
 state_valid r end result false valid gives = valid
@@ -65,7 +65,7 @@ next_natural place end is natural = let same : place ≡ end = (Decides-int_eq p
 later_natural : (offset end : ℤ) → int_lt offset end ≡ false → Natural end → Natural offset
 later_natural offset end low natural = grind (arith, ints)
 
-item_natural : (r : Reached) (place : ℤ) (result : Result LogState Ill) (at low : Bool) → int_eq place r.end ≡ at → Natural r.end → Natural (cond (at && low) (with_state r (place +ℤ pos 1) result) r).end
+item_natural : (r : Reached) (place : ℤ) (result : Result LogState Ill) (at low : Bool) → int_eq place r.end ≡ at → Natural r.end → Natural (cond (at && low) (with_outcome r (place +ℤ pos 1) result) r).end
 item_natural r place (Ok state) true true is natural = next_natural place r.end is natural
 item_natural r place (Err cause) true true is natural = natural
 item_natural r place result true false is natural = natural

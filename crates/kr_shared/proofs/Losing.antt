@@ -30,7 +30,7 @@ use Rattle.law_published_log.proofs.Evolving.{Shorter}
 use Rattle.kr_shared.specs.declared.asked.Asked.{Asked}
 use Rattle.kr_shared.specs.declared.taking.Given.{Given}
 use Rattle.kr_shared.specs.Answers.{Answering, AreReplied, answer_all, answering}
-use Rattle.kr_shared.specs.Desks.{DeskState, DeskStands, added, ready, settled}
+use Rattle.kr_shared.specs.Desks.{DeskState, DeskStands, held_back, ready, settled}
 use Rattle.kr_shared.specs.Gives.{GivesOut}
 use Rattle.kr_shared.specs.Lines.{HasLineRoom, LineView}
 use Rattle.kr_shared.specs.Serves.{ServesEvent}
@@ -48,7 +48,7 @@ use Rattle.kr_shared.proofs.Giving.{still_room}
 
 module _ (w : DeskState) (sf : DeskStands w) (bare : AreNotes w.line.due) (epoch : ℤ) (led : w.engine.leading ≡ Some epoch) (e1 e2 : Core) (l : LineView) (given : Given)
     (pieces pieces' : Option (List (List ℕ))) (faults faults' : ℕ) (step : IsStep w.engine e1 (events.Lost epoch)) (gives : GivesOut e1 e2 pieces pieces' faults faults' w.line l given)
-    (new : DeskState) (unstaged fresh : List Entry) (cut_is : unstaged ++ fresh ≡ up_to_below e2.committed (added w)) (is : new ≡ record w { engine = record e2 { fresh = [] }; line = l; unstaged = unstaged; fresh = fresh }) where
+    (new : DeskState) (unstaged fresh : List Entry) (cut_is : unstaged ++ fresh ≡ up_to_below e2.committed (held_back w)) (is : new ≡ record w { engine = record e2 { fresh = [] }; line = l; unstaged = unstaged; fresh = fresh }) where
   abbrev event : Event
   event = events.Lost epoch
 
@@ -113,7 +113,7 @@ module _ (w : DeskState) (sf : DeskStands w) (bare : AreNotes w.line.due) (epoch
       ∙ shorter_shown s.world next.world old.shelf.list e2.fresh (served.rests old e2 event told s k.writes k.stands t) k.stands.shows shorter no_fresh
 
   abbrev front : List Entry
-  front = staged_below w.engine.closed (added w)
+  front = staged_below w.engine.closed (held_back w)
 
   abbrev behind_front : List Entry
   behind_front = up_to_below e2.committed old.unstaged
@@ -125,16 +125,16 @@ module _ (w : DeskState) (sf : DeskStands w) (bare : AreNotes w.line.due) (epoch
   front_low =
       subst (λ z. AreBelow z front) (sym (after_stands.committed ∙ ap pos shorter.same))
       (later_below (closed_of s.world) s.world.committed front (served.rests old e2 event told s k.writes k.stands t).committed
-      (subst (λ z. AreBelow z front) k.stands.engine.closed (all_below w.engine.closed (added w))))
+      (subst (λ z. AreBelow z front) k.stands.engine.closed (all_below w.engine.closed (held_back w))))
 
   added_is : unstaged ++ fresh ≡ front ++ behind_front
   added_is =
       cut_is
-      ∙ (ap (up_to_below e2.committed) (sym (both_parts w.engine.closed (added w)))
+      ∙ (ap (up_to_below e2.committed) (sym (both_parts w.engine.closed (held_back w)))
       ∙ up_to_low e2.committed front old.unstaged front_low)
 
   front_then : AreBelow e2.closed front
-  front_then = subst (λ z. AreBelow z front) (sym at_end) (all_below w.engine.closed (added w))
+  front_then = subst (λ z. AreBelow z front) (sym at_end) (all_below w.engine.closed (held_back w))
 
   -- as the event has it
   left_is : behind_front ≡ more

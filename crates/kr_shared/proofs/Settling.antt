@@ -10,7 +10,7 @@ use Rattle.kr_view.specs.Shelves.{IsDelayed, MayPublish, Shelf, left_at, next_at
 use Rattle.kr_view.specs.Staged.{staged_above, staged_below}
 use Rattle.kr_model.specs.Engine.{Core}
 use Rattle.kr_shared.specs.declared.asked.Asked.{Asked}
-use Rattle.kr_shared.specs.Desks.{ComesToSame, IsPrepared, IsCaughtUp, DeskState, DeskStands, StaysDue, added, ready, settled}
+use Rattle.kr_shared.specs.Desks.{ComesToSame, IsPrepared, IsCaughtUp, DeskState, DeskStands, StaysDue, held_back, ready, settled}
 use Rattle.kr_shared.specs.Lines.{HasLineRoom, LineView}
 use Rattle.kr_shared.specs.Standing.{StandsForSome}
 use Rattle.kr_shared.specs.Works.{DeskView, KeepsShown, Onwards}
@@ -54,8 +54,8 @@ fold_keeps s (e ∷ es) = keeps_trans s (with_staged s e) (fold with_staged (wit
 
 pub ready_keeps : (k : DeskState) → KeepsShown k.shelf (ready k)
 ready_keeps k =
-    let mid = fold with_staged k.shelf (staged_below k.engine.closed (added k)) in
-    keeps_trans k.shelf mid (ready k) (fold_keeps k.shelf (staged_below k.engine.closed (added k))) (fold_keeps mid k.line.due)
+    let mid = fold with_staged k.shelf (staged_below k.engine.closed (held_back k)) in
+    keeps_trans k.shelf mid (ready k) (fold_keeps k.shelf (staged_below k.engine.closed (held_back k))) (fold_keeps mid k.line.due)
 
 -- ---- below an end, and above it
 
@@ -85,22 +85,22 @@ first_left_alone end (e ∷ es) none =
 
 -- ---- all is staged
 
-pub ready_is : (k : DeskState) → staged_below k.engine.closed (added k) ≡ [] → k.line.due ≡ [] → ready k ≡ k.shelf
+pub ready_is : (k : DeskState) → staged_below k.engine.closed (held_back k) ≡ [] → k.line.due ≡ [] → ready k ≡ k.shelf
 ready_is k staged due =
     ap (λ (es : List Entry). fold with_staged (fold with_staged k.shelf es) k.line.due) staged ∙ ap (λ (es : List Entry). fold with_staged k.shelf es) due
 
 -- with nothing behind it
-added_alone : (k : DeskState) → k.fresh ≡ [] → added k ≡ k.unstaged
+added_alone : (k : DeskState) → k.fresh ≡ [] → held_back k ≡ k.unstaged
 added_alone k fresh = ap (λ (es : List Entry). k.unstaged ++ es) fresh ∙ append-nil k.unstaged
 
-pub prepared_below : (k : DeskState) → IsPrepared k → staged_below k.engine.closed (added k) ≡ []
+pub prepared_below : (k : DeskState) → IsPrepared k → staged_below k.engine.closed (held_back k) ≡ []
 prepared_below k h = ap (staged_below k.engine.closed) (added_alone k h.fresh) ∙ h.unstaged
 
-prepared_above : (k : DeskState) → IsPrepared k → staged_above k.engine.closed (added k) ≡ k.unstaged
+prepared_above : (k : DeskState) → IsPrepared k → staged_above k.engine.closed (held_back k) ≡ k.unstaged
 prepared_above k h = ap (staged_above k.engine.closed) (added_alone k h.fresh) ∙ first_left_alone k.engine.closed k.unstaged h.unstaged
 
-pub caught_below : (k : DeskState) → IsCaughtUp k → staged_below k.engine.closed (added k) ≡ []
-caught_below k h = ap (staged_below k.engine.closed) (added_alone k h.fresh ∙ h.unstaged) ∙ none_below k.engine.closed (added k)
+pub caught_below : (k : DeskState) → IsCaughtUp k → staged_below k.engine.closed (held_back k) ≡ []
+caught_below k h = ap (staged_below k.engine.closed) (added_alone k h.fresh ∙ h.unstaged) ∙ none_below k.engine.closed (held_back k)
 
 pub caught_ready : (k : DeskState) → IsCaughtUp k → ready k ≡ k.shelf
 caught_ready k h = ready_is k (caught_below k h) h.seated.due
@@ -135,7 +135,7 @@ module _ (old new : DeskState) (h : IsPrepared old) (is : new ≡ record old { s
   after = record old { shelf = shelf }
 
   abbrev above : List Entry
-  above = staged_above end (added old)
+  above = staged_above end (held_back old)
 
   ready_after : ready after ≡ shelf
   ready_after = ready_is after (prepared_below old h) h.seated.due
@@ -182,17 +182,17 @@ module _ (old new : DeskState) (h : IsPrepared old) (is : new ≡ record old { s
   at = old.engine.closed
 
   abbrev kept : List Entry
-  kept = staged_above at (added old)
+  kept = staged_above at (held_back old)
 
   ready_then : ready new ≡ new.shelf
-  ready_then = ready_is new ((λ i. staged_below (is i).engine.closed (added (is i))) ∙ prepared_below old h) (ap (λ (k : DeskState). k.line.due) is ∙ h.seated.due)
+  ready_then = ready_is new ((λ i. staged_below (is i).engine.closed (held_back (is i))) ∙ prepared_below old h) (ap (λ (k : DeskState). k.line.due) is ∙ h.seated.due)
 
   same_shown : shown_at at new.shelf ≡ shown_at at old.shelf
   same_shown = λ i. record { options = d.options i; list = d.list i ++ d.next i; waiting = []; items = d.left i; notes = [] }
 
   pub delayed_same : settled new ≡ settled old
   delayed_same =
-      (λ i. comes_to (ready_then i) (staged_above (is i).engine.closed (added (is i))) (is i).engine (is i).line.waiting)
+      (λ i. comes_to (ready_then i) (staged_above (is i).engine.closed (held_back (is i))) (is i).engine (is i).line.waiting)
       ∙ (ap (λ (s : Shelf). record { shelf = s; unstaged = kept; engine = old.engine; waiting = old.line.waiting }) same_shown
       ∙ ap (λ (s : Shelf). comes_to s kept old.engine old.line.waiting) (sym (prepared_is old h)))
 
@@ -245,7 +245,7 @@ settles_whole old mid new k h p show =
 
 -- ---- the pieces of staging
 
-pub stays_joined : (old new : DeskState) → new ≡ record old { unstaged = new.unstaged; fresh = new.fresh } → added new ≡ added old → StaysDue old new
+pub stays_joined : (old new : DeskState) → new ≡ record old { unstaged = new.unstaged; fresh = new.fresh } → held_back new ≡ held_back old → StaysDue old new
 stays_joined old new is same = record {
   ready = λ i. fold with_staged (fold with_staged (is i).shelf (staged_below (is i).engine.closed (same i))) (is i).line.due;
   unstaged = λ i. staged_above (is i).engine.closed (same i);
@@ -276,15 +276,15 @@ stays_staged old new is fresh same left keeps =
     }
 
 -- both, one after the other
-pub stays_entries : (old mid new : DeskState) → mid ≡ record old { unstaged = mid.unstaged; fresh = mid.fresh } → added mid ≡ added old → mid.fresh ≡ [] → new ≡ record mid { shelf = new.shelf; unstaged = new.unstaged }
+pub stays_entries : (old mid new : DeskState) → mid ≡ record old { unstaged = mid.unstaged; fresh = mid.fresh } → held_back mid ≡ held_back old → mid.fresh ≡ [] → new ≡ record mid { shelf = new.shelf; unstaged = new.unstaged }
     → fold with_staged new.shelf (staged_below mid.engine.closed new.unstaged) ≡ fold with_staged mid.shelf (staged_below mid.engine.closed mid.unstaged)
     → staged_above mid.engine.closed new.unstaged ≡ staged_above mid.engine.closed mid.unstaged → KeepsShown mid.shelf new.shelf → StaysDue old new
 stays_entries old mid new joins all fresh is same left keeps = stays_then old mid new (stays_joined old mid joins all) (stays_staged mid new is fresh same left keeps)
 
 pub stays_seated : (old new : DeskState) → new ≡ record old { line = new.line } → new.line ≡ record old.line { seated = new.line.seated } → StaysDue old new
 stays_seated old new is seated = record {
-  ready = (λ i. fold with_staged (fold with_staged (is i).shelf (staged_below (is i).engine.closed (added (is i)))) new.line.due) ∙ (λ i. fold with_staged (fold with_staged old.shelf (staged_below old.engine.closed (added old))) (seated i).due);
-  unstaged = λ i. staged_above (is i).engine.closed (added (is i));
+  ready = (λ i. fold with_staged (fold with_staged (is i).shelf (staged_below (is i).engine.closed (held_back (is i)))) new.line.due) ∙ (λ i. fold with_staged (fold with_staged old.shelf (staged_below old.engine.closed (held_back old))) (seated i).due);
+  unstaged = λ i. staged_above (is i).engine.closed (held_back (is i));
   engine = ap (λ (k : DeskState). k.engine) is;
   waiting = ap (λ (l : LineView). l.waiting) seated;
   shown = subst (λ (k : DeskState). KeepsShown old.shelf k.shelf) (sym is) (keeps_refl old.shelf);
@@ -294,12 +294,12 @@ stays_seated old new is seated = record {
 pub stays_noted : (old new : DeskState) → old.fresh ≡ [] → staged_below old.engine.closed old.unstaged ≡ [] → new ≡ record old { shelf = new.shelf; line = new.line } → fold with_staged new.shelf new.line.due ≡ fold with_staged old.shelf old.line.due → KeepsShown old.shelf new.shelf
     → new.line ≡ record old.line { due = new.line.due; dues = new.line.dues } → new.line.dues ≤ old.line.dues → StaysDue old new
 stays_noted old new fresh none is same keeps line fewer =
-    let none_old : staged_below old.engine.closed (added old) ≡ [] = ap (staged_below old.engine.closed) (added_alone old fresh) ∙ none in
-    let none_new : staged_below new.engine.closed (added new) ≡ [] = (λ i. staged_below (is i).engine.closed (added (is i))) ∙ none_old in record {
+    let none_old : staged_below old.engine.closed (held_back old) ≡ [] = ap (staged_below old.engine.closed) (added_alone old fresh) ∙ none in
+    let none_new : staged_below new.engine.closed (held_back new) ≡ [] = (λ i. staged_below (is i).engine.closed (held_back (is i))) ∙ none_old in record {
       ready =
           (λ i. fold with_staged (fold with_staged new.shelf (none_new i)) new.line.due)
           ∙ (same ∙ (λ i. fold with_staged (fold with_staged old.shelf (sym none_old i)) old.line.due));
-      unstaged = λ i. staged_above (is i).engine.closed (added (is i));
+      unstaged = λ i. staged_above (is i).engine.closed (held_back (is i));
       engine = ap (λ (k : DeskState). k.engine) is;
       waiting = ap (λ (l : LineView). l.waiting) line;
       shown = keeps;

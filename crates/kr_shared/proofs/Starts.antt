@@ -14,7 +14,7 @@ use Rattle.kr_model.specs.World.{seen_at, start}
 use Rattle.law_published_log.specs.Following.{Shows}
 use Rattle.kr_view.specs.Shelves.{shown_at}
 use Rattle.kr_view.specs.Staged.{staged_above, staged_below}
-use Rattle.kr_shared.specs.Desks.{IsNewDesk, IsCaughtUp, DeskState, DeskStands, added, ready, settled}
+use Rattle.kr_shared.specs.Desks.{IsNewDesk, IsCaughtUp, DeskState, DeskStands, held_back, ready, settled}
 use Rattle.kr_shared.specs.Standing.{Standing}
 use Rattle.kr_shared.specs.Works.{DeskView, resting}
 use Rattle.kr_shared.proofs.Settling.{ready_is, settled_right}
@@ -43,7 +43,7 @@ module _ (options : Options) (k : DeskState) (shelf : Shelf) (e : Core) (o : IsN
   pub kept_shelf : k.shelf ≡ resting options []
   kept_shelf = o.shelf_is ∙ shelf_is
 
-  none_added : added k ≡ []
+  none_added : held_back k ≡ []
   none_added = λ i. o.unstaged i ++ o.fresh i
 
   all_ready : ready k ≡ resting options []

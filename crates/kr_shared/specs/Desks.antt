@@ -26,16 +26,16 @@ pub record DeskState : Type 0 where
   pub fresh : List Entry
 
 -- what the engine added to the log and isn't staged
-abbrev pub added : DeskState → List Entry
-added k = k.unstaged ++ k.fresh
+abbrev pub held_back : DeskState → List Entry
+held_back k = k.unstaged ++ k.fresh
 
 -- all is staged that is below the closed end, and all that is due
 abbrev pub ready : DeskState → Shelf
-ready k = fold with_staged (fold with_staged k.shelf (staged_below k.engine.closed (added k))) k.line.due
+ready k = fold with_staged (fold with_staged k.shelf (staged_below k.engine.closed (held_back k))) k.line.due
 
 -- what the worker does comes to this, once all that is due is published
 abbrev pub settled : DeskState → DeskView
-settled k = record { shelf = shown_at k.engine.closed (ready k); unstaged = staged_above k.engine.closed (added k); engine = k.engine; waiting = k.line.waiting }
+settled k = record { shelf = shown_at k.engine.closed (ready k); unstaged = staged_above k.engine.closed (held_back k); engine = k.engine; waiting = k.line.waiting }
 
 -- all is published that is due
 pub record IsCaughtUp (k : DeskState) : Type 0 where
@@ -59,7 +59,7 @@ pub record DeskStands (k : DeskState) : Type 0 where
 -- more is staged, and what is due is the same
 pub record StaysDue (old new : DeskState) : Type 0 where
   pub ready : ready new ≡ ready old
-  pub unstaged : staged_above new.engine.closed (added new) ≡ staged_above old.engine.closed (added old)
+  pub unstaged : staged_above new.engine.closed (held_back new) ≡ staged_above old.engine.closed (held_back old)
   pub engine : new.engine ≡ old.engine
   pub waiting : new.line.waiting ≡ old.line.waiting
   pub shown : KeepsShown old.shelf new.shelf

@@ -12,7 +12,7 @@ ghost use Rattle.kr_model.specs.Engine.{IsSound, IsStep, outputs_left};
 ghost use Rattle.kr_model.specs.World.{is_far};
 ghost use Rattle.law_published_log.specs.Following.{AreNotes};
 ghost use Rattle.kr_shared.specs.Answers.{aside_noted};
-ghost use Rattle.kr_shared.specs.Desks.{ComesToSame, HasSpare, IsNewDesk, IsPrepared, IsCaughtUp, DeskStands, StaysDue, added, aside_by, entered_by, settled, takes_writes};
+ghost use Rattle.kr_shared.specs.Desks.{ComesToSame, HasSpare, IsNewDesk, IsPrepared, IsCaughtUp, DeskStands, StaysDue, held_back, aside_by, entered_by, settled, takes_writes};
 ghost use Rattle.kr_shared.specs.Gives.{GivesOut};
 ghost use Rattle.kr_shared.specs.Lines.{HasLineRoom, IsSeated, line_entry};
 ghost use Rattle.kr_shared.specs.Turns.{LosesLed, LosesUnless, Notes, NotesUnlessAhead, job_again, outside, write_job};
@@ -397,8 +397,8 @@ impl Desk {
 
     // With a leadership all goes that isn't below the committed end.
     fn drop_lost(&mut self, lost: bool)
-        ensures left { added self.new
-            ≡ left_if lost self.old.engine.committed (added self.old) }
+        ensures left { held_back self.new
+            ≡ left_if lost self.old.engine.committed (held_back self.old) }
         ensures fresh { self.old.fresh ≡ [] → self.new.fresh ≡ [] }
         ensures same { self.new ≡ record self.old {
           unstaged = self.new.unstaged;

@@ -14,7 +14,7 @@ use Rattle.kr_defs.specs.LogStates.{LogState, apply_at}
 use Rattle.kr_calls.specs.declared.events.Entry.{Entry}
 use Rattle.kr_calls.specs.declared.events.Entry.TheVariants as entries
 use Rattle.kr_calls.specs.Deciding.{apply_records}
-use Rattle.kr_calls.specs.SeatList.{IsClosedList, Reached, nothing_reached, reached, reached_with, with_image, with_state}
+use Rattle.kr_calls.specs.SeatList.{IsClosedList, Reached, nothing_reached, reached, reached_with, with_image, with_outcome}
 use Rattle.kr_view.specs.Staged.{is_begin, is_begin_item}
 use Rattle.kr_view.proofs.OpenTransactions.{abort_closes, end_closes, other_leaves}
 
@@ -28,7 +28,7 @@ item_closed state after (items.Record kinds.EndTransaction) place plain closed i
 item_closed state after (items.Record (kinds.AbortTransaction reason)) place plain closed is = abort_closes state after is
 item_closed state after item place plain closed is = other_leaves state item after is ∙ closed
 
-with_closed : (r : Reached) (end : ℤ) (result : Result LogState Ill) (b : Bool) → IsClosed r.state → ((after : LogState) → result ≡ Ok after → IsClosed after) → IsClosed (cond b (with_state r end result) r).state
+with_closed : (r : Reached) (end : ℤ) (result : Result LogState Ill) (b : Bool) → IsClosed r.state → ((after : LogState) → result ≡ Ok after → IsClosed after) → IsClosed (cond b (with_outcome r end result) r).state
 with_closed r end (Ok after) true closed step = step after refl
 with_closed r end (Err cause) true closed step = closed
 with_closed r end result false closed step = closed

@@ -19,7 +19,7 @@ use Rattle.kr_image.proofs.EpochEnds.{filter_all, last_later}
 use Rattle.kr_image.proofs.KeptLists.{all_passing, all_push, all_weaker, apart_before, find_filter, find_last, map_same}
 use Rattle.kr_store.specs.Images.{AreBegunFrom, AreValid, Images, IsAbove, begun_at, begun_under, forgotten, kept_at, kept_once, last_kept, log_place, marked, no_images, opened_at, opened_under, reverted, tip_state}
 use Rattle.kr_view.specs.Pinned.{log_in, pin_image, reached_in}
-use Rattle.kr_view.specs.Standing.{AreInTurn, AreNatural, ComesTo, GoesOnFrom, IsRunningAt, IsStandingAt, KeepsMore, run_with, with_run}
+use Rattle.kr_view.specs.Standing.{AreInTurn, AreNatural, ComesTo, OpensFrom, IsRunningAt, IsStandingAt, KeepsMore, run_with, with_run}
 use Rattle.kr_view.proofs.OpenTransactions.{Begun, Rising, opened_with, all_filter, all_follow_last, all_middle, around, begun_rising, lt_itself, not_both, turn_filter, turn_push}
 use Rattle.kr_view.proofs.Runs.{gone_on, still_there}
 
@@ -115,7 +115,7 @@ module _ (store : Images) (end : ℤ) (pins : List Pin) (s : IsStandingAt store 
     from = s.from;
     natural = all_natural;
     in_turn = turn_push store.kept_begun (end, store.begun) s.in_turn
-        (subst (λ (bs : List Begun). AllByRecursion (λ (k : Begun). IfSome store.begun (GoesOnFrom k)) bs) (sym s.begun)
+        (subst (λ (bs : List Begun). AllByRecursion (λ (k : Begun). IfSome store.begun (OpensFrom k)) bs) (sym s.begun)
         (all_follow_last s.earlier_begun end store.begun (subst AreInTurn s.begun s.in_turn)));
   }
 

@@ -15,7 +15,7 @@ use Rattle.kr_calls.specs.SeatList.{lower}
 use Rattle.kr_image.proofs.KeptLists.{all_passing, all_weaker}
 use Rattle.kr_image.proofs.Stores.{found_has, found_passes}
 use Rattle.kr_store.specs.Images.{AreBegunFrom, AreValid, Images, begun_at, begun_under, kept_at}
-use Rattle.kr_view.specs.Standing.{AreInTurn, GoesOnFrom, IsStandingAt}
+use Rattle.kr_view.specs.Standing.{AreInTurn, OpensFrom, IsStandingAt}
 use Rattle.kr_view.proofs.OpenTransactions.{Begun, Follow, Rising, all_front, begun_rising, each_above, floor_through, lt_itself, not_both}
 use Rattle.kr_view.proofs.Kept.{at_end, oldest_first}
 
@@ -44,7 +44,7 @@ not_below : (x : Begun) (f : ℤ) → IsFloor x f → int_lt x.0 f ≡ false
 not_below x f floor = ⊎_elim (λ (some : (x.1 ≡ Some f) × (int_lt x.0 f ≡ false)). some.1) (λ (none : (x.1 ≡ None) × (x.0 ≡ f)). subst (λ z. int_lt z f ≡ false) (sym none.1) (lt_itself f)) floor
 
 -- behind the epoch
-began_from : (x : Begun) (f begin : ℤ) → IsFloor x f → GoesOnFrom x begin → int_lt begin f ≡ false
+began_from : (x : Begun) (f begin : ℤ) → IsFloor x f → OpensFrom x begin → int_lt begin f ≡ false
 began_from x f begin floor goes = ⊎_elim
     (λ (same : x.1 ≡ Some begin). ⊎_elim
     (λ (some : (x.1 ≡ Some f) × (int_lt x.0 f ≡ false)). subst (λ z. int_lt z f ≡ false) (some_is f begin (sym some.0 ∙ same)) (lt_itself f))

@@ -20,7 +20,7 @@ use Rattle.kr_defs.specs.Apply.{apply}
 use Rattle.kr_defs.specs.Image.{Image}
 use Rattle.kr_defs.specs.LogStates.{LogState, Opened, abort_open, apply_at, begin_at, end_open, image_after}
 use Rattle.kr_defs.proofs.Tests.{Gives, gives_done, gives_found, gives_refuse, gives_then, none_is, not_true, some_is}
-use Rattle.kr_calls.specs.SeatList.{with_item, with_state}
+use Rattle.kr_calls.specs.SeatList.{with_item, with_outcome}
 use Rattle.kr_view.specs.Pinned.{reached_in}
 use Rattle.kr_image.proofs.EpochEnds.{last_later, less_lt, split}
 use Rattle.kr_image.proofs.KeptLists.{all_passing, all_push, all_weaker, find_map}
@@ -28,7 +28,7 @@ use Rattle.kr_image.proofs.Stores.{found_has, found_passes}
 use Rattle.kr_image.proofs.StoreStates.{kept_already, kept_more}
 use Rattle.kr_store.specs.Images.{AreBegunFrom, AreValid, Images, IsAbove, begun_at, begun_under, kept_at, last_kept, log_place, marked, opened_at, opened_under, tip_state}
 use Rattle.kr_store.specs.ItemAnswers.{FallsBack, KeepsEpochs, MayOpen, MayStand, with_begin, with_epoch}
-use Rattle.kr_view.specs.Standing.{AreInTurn, AreNatural, ComesTo, GoesOnFrom, IsLastKept, IsRunningAt, IsStandingAt, KeepsMore}
+use Rattle.kr_view.specs.Standing.{AreInTurn, AreNatural, ComesTo, OpensFrom, IsLastKept, IsRunningAt, IsStandingAt, KeepsMore}
 
 -- ---- numbers
 
@@ -95,7 +95,7 @@ abbrev pub Begun : Type 0
 Begun = ℤ × Option ℤ
 
 abbrev pub Follow : Begun → Option ℤ → Type 0
-Follow kept later = IfSome later (GoesOnFrom kept)
+Follow kept later = IfSome later (OpensFrom kept)
 
 -- it goes on from each of them
 abbrev AllFollow : List Begun → Option ℤ → Type 0
@@ -130,7 +130,7 @@ none_follows (x ∷ xs) = (tt, none_follows xs)
 
 -- what begins behind all of them
 begins_behind : (xs : List Begun) (begin : ℤ) → AllByRecursion (λ (x : Begun). int_lt x.0 begin ≡ true) xs → AllFollow xs (Some begin)
-begins_behind xs begin above = all_weaker (λ (x : Begun). int_lt x.0 begin ≡ true) (λ (x : Begun). GoesOnFrom x begin) (λ x h. inr (inl h)) xs above
+begins_behind xs begin above = all_weaker (λ (x : Begun). int_lt x.0 begin ≡ true) (λ (x : Begun). OpensFrom x begin) (λ x h. inr (inl h)) xs above
 
 -- ---- kept epochs
 
@@ -231,7 +231,7 @@ module _ (before : Images) (at : ℤ) (run : IsRunningAt before at) (valid : Are
     opens_above above none some epochs =
         let below : AllByRecursion (λ (k : ℤ × Image). int_lt k.0 at ≡ true) before.kept = recursion_from_All (λ (k : ℤ × Image). IsTrue (int_lt k.0 at)) before.kept above in
         let up : IsAbove after.kept next = subst (λ (ks : List (ℤ × Image)). IsAbove ks next) (sym epochs.images) (All-from_recursion (λ (k : ℤ × Image). IsTrue (int_lt k.0 next)) (before.kept ++ (at, before.tip) ∷ []) (all_push (λ (k : ℤ × Image). int_lt k.0 next ≡ true) before.kept (at, before.tip) kept_below (lt_next at))) in
-        let here : GoesOnFrom (at, before.begun) at = inr (inr (none, refl)) in
+        let here : OpensFrom (at, before.begun) at = inr (inr (none, refl)) in
         let follows : AllFollow (before.kept_begun ++ (at, before.begun) ∷ []) (Some at) =
         all_push (λ (k : Begun). Follow k (Some at)) before.kept_begun (at, before.begun) (begins_behind before.kept_begun at (of_begun before valid (λ z. int_lt z at ≡ true) before.kept before.kept_begun valid.begun.beside below)) here in (
           record {
@@ -251,7 +251,7 @@ module _ (before : Images) (at : ℤ) (run : IsRunningAt before at) (valid : Are
     opens_last : IsLastKept before at → before.begun ≡ None → after.begun ≡ Some at → KeepsEpochs after before → ComesTo before after at next × KeepsMore before after
     opens_last last none some epochs =
         let low = (around last.earlier_begun (at, before.begun) [] (subst (λ (bs : List Begun). Rising bs) last.begun (begun_rising before valid))).0 in
-        let here : GoesOnFrom (at, before.begun) at = inr (inr (none, refl)) in
+        let here : OpensFrom (at, before.begun) at = inr (inr (none, refl)) in
         let follows : AllFollow before.kept_begun (Some at) =
         subst (λ (bs : List Begun). AllFollow bs (Some at)) (sym last.begun) (all_push (λ (k : Begun). Follow k (Some at)) last.earlier_begun (at, before.begun) (begins_behind last.earlier_begun at low) here) in
         stays epochs.images epochs.begun (subst (λ (o : Option ℤ). AllFollow before.kept_begun o) (sym some) follows)
@@ -352,16 +352,16 @@ may_stand store end place item run is = subst (λ z. MayStand store z item) (sym
 
 -- it doesn't count
 pub passed_state : (store : Images) (end place : ℤ) (item : Item) → counted place end ≡ false → reached_in store end ≡ with_item (reached_in store end) place item
-passed_state store end place item off = ap (λ b. cond b (with_state (reached_in store end) (place +ℤ pos 1) (apply_at (tip_state store) (unsigned_abs place) item)) (reached_in store end)) (sym off)
+passed_state store end place item off = ap (λ b. cond b (with_outcome (reached_in store end) (place +ℤ pos 1) (apply_at (tip_state store) (unsigned_abs place) item)) (reached_in store end)) (sym off)
 
 module _ (before after : Images) (end place : ℤ) (item : Item) (run : IsRunningAt before end) (is : counted place end ≡ true) where
   natural_there : log_place place ≡ unsigned_abs place
   natural_there = log_place_is place (subst (λ z. int_lt (negsuc 0) z ≡ true) (sym (counted_at place end is)) run.from)
 
-  made : (r : Result LogState Ill) → apply_at (tip_state before) (log_place place) item ≡ r → with_item (reached_in before end) place item ≡ with_state (reached_in before end) (place +ℤ pos 1) r
+  made : (r : Result LogState Ill) → apply_at (tip_state before) (log_place place) item ≡ r → with_item (reached_in before end) place item ≡ with_outcome (reached_in before end) (place +ℤ pos 1) r
   made r by =
-      ap (λ b. cond b (with_state (reached_in before end) (place +ℤ pos 1) (apply_at (tip_state before) (unsigned_abs place) item)) (reached_in before end)) is
-      ∙ ap (with_state (reached_in before end) (place +ℤ pos 1)) (ap (λ n. apply_at (tip_state before) n item) (sym natural_there) ∙ by)
+      ap (λ b. cond b (with_outcome (reached_in before end) (place +ℤ pos 1) (apply_at (tip_state before) (unsigned_abs place) item)) (reached_in before end)) is
+      ∙ ap (with_outcome (reached_in before end) (place +ℤ pos 1)) (ap (λ n. apply_at (tip_state before) n item) (sym natural_there) ∙ by)
 
   -- it has a meaning, or none
   pub done_state : apply_at (tip_state before) (log_place place) item ≡ Ok (tip_state after) → reached_in after (place +ℤ pos 1) ≡ with_item (reached_in before end) place item

@@ -10,7 +10,7 @@ use Rattle.kr_defs.specs.declared.limits.TheConstants.{PLACES_END}
 use Rattle.kr_defs.specs.LogStates.{LogState, apply_at}
 use Rattle.kr_calls.specs.declared.events.Entry.{Entry}
 use Rattle.kr_calls.specs.declared.events.Entry.TheVariants as entries
-use Rattle.kr_calls.specs.SeatList.{PinnedLog, Reached, loads_with, pinned_with, with_state}
+use Rattle.kr_calls.specs.SeatList.{PinnedLog, Reached, loads_with, pinned_with, with_outcome}
 use Rattle.kr_view.specs.Runs.{is_single, AreNoSingles}
 use Rattle.kr_view.specs.Standing.{run_with, with_run}
 
@@ -23,7 +23,7 @@ below_next place end same = grind (arith, ints)
 through : (a b c : ℤ) → int_lt a b ≡ true → int_lt b c ≡ true → int_lt a c ≡ true
 through a b c p q = grind (arith, ints)
 
-at_end : (r : Reached) (place : ℤ) (result : Result LogState Ill) (is : Bool) → int_eq place r.end ≡ is → (low : Bool) → Rises r (cond (is && low) (with_state r (place +ℤ pos 1) result) r)
+at_end : (r : Reached) (place : ℤ) (result : Result LogState Ill) (is : Bool) → int_eq place r.end ≡ is → (low : Bool) → Rises r (cond (is && low) (with_outcome r (place +ℤ pos 1) result) r)
 at_end r place (Ok state) true is true = inr (below_next place r.end ((Decides-int_eq place r.end).0 is))
 at_end r place (Err cause) true is true = inl refl
 at_end r place result true is false = inl refl

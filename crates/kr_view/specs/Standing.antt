@@ -31,13 +31,13 @@ with_run l run = record l { at = fold run_with l.at run }
 -- ---- transactions that were open at kept epochs
 
 -- a transaction that is open later was open at the epoch too, or began behind it, or at it where none was open
-abbrev pub GoesOnFrom : ℤ × Option ℤ → ℤ → Type 0
-GoesOnFrom kept begin = (kept.1 ≡ Some begin) ⊎ (IsTrue (int_lt kept.0 begin) ⊎ ((kept.1 ≡ None) × (kept.0 ≡ begin)))
+abbrev pub OpensFrom : ℤ × Option ℤ → ℤ → Type 0
+OpensFrom kept begin = (kept.1 ≡ Some begin) ⊎ (IsTrue (int_lt kept.0 begin) ⊎ ((kept.1 ≡ None) × (kept.0 ≡ begin)))
 
 -- of epochs in order, each with the place of the transaction that was open there
 abbrev pub AreInTurn : List (ℤ × Option ℤ) → Type 0
 AreInTurn [] = Unit {0}
-AreInTurn (kept ∷ later) = AllByRecursion (λ (l : ℤ × Option ℤ). IfSome l.1 (GoesOnFrom kept)) later × AreInTurn later
+AreInTurn (kept ∷ later) = AllByRecursion (λ (l : ℤ × Option ℤ). IfSome l.1 (OpensFrom kept)) later × AreInTurn later
 
 abbrev pub AreNatural : List (ℤ × Image) → Type 0
 AreNatural kept = AllByRecursion (λ (k : ℤ × Image). int_lt (negsuc 0) k.0 ≡ true) kept
