@@ -103,10 +103,11 @@ last_counted log first before (n ∷ ns) last (m ∷ ms) count rise are =
     let up = rise.0 in
     let high = not_higher n ns last rise.1 in
     let q : ℤ × ℕ → Bool = λ m. not (int_lt m.0 (pos last)) in
-    let later = last_counted log n (weight_below log n) ns last ms m.1 rise.1 are.2 in
-    (later.0,
-    ap (λ b. cond (not b) ((pos first, count) ∷ filter q (m ∷ ms)) (filter q (m ∷ ms))) (is_below first last (omega (arith, up, high)))
-    ∙ (ap (λ z. filter q ((z, m.1) ∷ ms)) are.0 ∙ later.1))
+    let later = last_counted log n (weight_below log n) ns last ms m.1 rise.1 are.2 in (
+      later.0,
+      ap (λ b. cond (not b) ((pos first, count) ∷ filter q (m ∷ ms)) (filter q (m ∷ ms))) (is_below first last (omega (arith, up, high)))
+          ∙ (ap (λ z. filter q ((z, m.1) ∷ ms)) are.0 ∙ later.1),
+    )
 
 -- ---- places that aren't above one
 

@@ -123,8 +123,7 @@ stands_on : (before after : Images) (place : ℤ) (item : Item) → AreValid bef
     → IsAbove after.kept (place +ℤ pos 1) × Stands after (place +ℤ pos 1)
 stands_on before after place item valid stands applied =
     let behind = behind_item before place item (tip_state after) valid stands applied.0 in
-    let above = same_above after (with_begin before place item) (place +ℤ pos 1) applied.1 behind.0 in
-    (
+    let above = same_above after (with_begin before place item) (place +ℤ pos 1) applied.1 behind.0 in (
       above,
       record {
         natural = still_natural place stands.natural;
