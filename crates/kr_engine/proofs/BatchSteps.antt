@@ -325,18 +325,18 @@ module _ (e : Core) (images : Images) (items : List Item) (s : State) (writes : 
     | Some begin ↦ λ unclosed. either_side begin unclosed
   ] refl
     where
+      less : (a b : ℕ) → nat_lt a b ≡ true → a < b
+      less a b is = grind (arith, nat_tests)
+
+      not_less : (a b : ℕ) → nat_lt a b ≡ false → b ≤ a
+      not_less a b is = grind (arith, nat_tests)
+
       either_side : (begin : ℕ) → open_at longer end ≡ Some begin → Weighed
       either_side begin unclosed =
           elim (nat_lt begin (tip_of s)) as (λ b. nat_lt begin (tip_of s) ≡ b → Weighed) [
             | true ↦ λ is. weighed_still begin unclosed (less begin (tip_of s) is)
             | false ↦ λ is. weighed_new begin unclosed (not_less begin (tip_of s) is)
           ] refl
-
-      less : (a b : ℕ) → nat_lt a b ≡ true → a < b
-      less a b is = grind (arith, nat_tests)
-
-      not_less : (a b : ℕ) → nat_lt a b ≡ false → b ≤ a
-      not_less a b is = grind (arith, nat_tests)
 
 -- ---- what a Batch asks of the engine
 

@@ -229,6 +229,9 @@ module _ (e : Core) (end : ℤ) (s : State) (writes : List Write) (k : IsEngine 
   weight_is : weight ≡ weight_settled log u
   weight_is = by opens
     where
+      both_ends : (a b d : ℕ) → a ≡ d → a ≤ b → b ≤ d → b ≡ d
+      both_ends a b d same le up = omega (arith, same, le, up)
+
       by : OpensAs log committed u → weight ≡ weight_settled log u
       by (inl none) =
           let at : c ≡ u = ap (λ o. unwrap_or o u) none in
@@ -244,9 +247,6 @@ module _ (e : Core) (end : ℤ) (s : State) (writes : List Write) (k : IsEngine 
           let at : pos c ≡ pos (closed_of s.world) = ap (λ o. pos (unwrap_or o u)) there ∙ sym (ap (λ o. pos (unwrap_or o committed)) before_there) in
           weight_stays e.images log (closed_of s.world) before ends (tip_of s) (pos c) k.weighed rise one_closed at
           ∙ (settled_weight (Some begin) committed before_there ∙ sym (settled_weight (Some begin) u there))
-
-      both_ends : (a b d : ℕ) → a ≡ d → a ≤ b → b ≤ d → b ≡ d
-      both_ends a b d same le up = omega (arith, same, le, up)
 
   weighed_then : IsWeighed (forgotten e.images (closed_at e.images end)) log (closed_of after) (weight_settled log after.committed) (after.covered ++ after.batch_ends)
   weighed_then =

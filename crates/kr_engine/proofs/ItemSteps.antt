@@ -146,8 +146,8 @@ same_longer start now next place l keeps = record {
 }
 
 all_both : {X : Type 0} (P : X → Type 0) (xs ys : List X) → AllByRecursion P xs → AllByRecursion P ys → AllByRecursion P (xs ++ ys)
-all_both P [] ys first then = then
-all_both {X} P (x ∷ xs) ys first then = (first.0, all_both P xs ys first.1 then)
+all_both P [] ys first second = second
+all_both {X} P (x ∷ xs) ys first second = (first.0, all_both P xs ys first.1 second)
 
 grown_longer : (start now next : Images) (place at : ℤ) (i : ℕ) (image : Image) → last_kept start ≡ Some (place, image) → IsLonger start now place → at ≡ place +ℤ pos i → Grows now next at → IsLonger start next place
 grown_longer start now next place at i image last l is (inl keeps) = same_longer start now next place l keeps

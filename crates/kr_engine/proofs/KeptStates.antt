@@ -245,17 +245,17 @@ none_vacuous images log none begin unclosed = absurd (let both : None ≡ Some b
 undoes_behind : (images next : Images) (log : Log) (item : Item) → state_at log (tip log) ≡ Ok (tip_state images) → apply_at (tip_state images) (tip log) item ≡ Ok (tip_state next) → UndoesWithin images log → calls_to_undo images ≤ since_at log
     → KeepsEpochs next (with_begin images (pos (tip log)) item) → next.made ≤ made_at images (pos (tip log)) item → ((with_epoch images (pos (tip log))).made ≡ 0) → (above (with_epoch images (pos (tip log))) (pos (tip log)) ≡ [])
     → UndoesWithin next (log_with log (item ∷ []))
-undoes_behind images next log (items.Record (kinds.BeginTransaction name)) is means within few keeps made zero none =
+undoes_behind images next log (items.Record (kinds.BeginTransaction name)) is means within few keeps made unmade none =
     let item = items.Record (kinds.BeginTransaction name) in
     let none_open : open_at log (tip log) ≡ None = sym (open_told log (tip log) (tip_state images) is) ∙ none_begun (tip_state images) (tip_state next) (tip log) name means in
-    undoes_none images next log (tip_state images) (tip_state next) item is means (omega (arith, made, zero))
+    undoes_none images next log (tip_state images) (tip_state next) item is means (omega (arith, made, unmade))
     (ap (λ (ms : List (ℤ × ℕ)). filter (λ (m : ℤ × ℕ). int_lt (pos (tip log)) m.0) ms) keeps.calls ∙ none)
     (ap (λ o. Some (unwrap_or o (tip log))) none_open)
-undoes_behind images next log (items.Record kinds.EndTransaction) is means within few keeps made zero none =
+undoes_behind images next log (items.Record kinds.EndTransaction) is means within few keeps made unmade none =
     none_vacuous next (log_with log (items.Record kinds.EndTransaction ∷ [])) (open_written log (items.Record kinds.EndTransaction ∷ []))
-undoes_behind images next log (items.Record (kinds.AbortTransaction reason)) is means within few keeps made zero none =
+undoes_behind images next log (items.Record (kinds.AbortTransaction reason)) is means within few keeps made unmade none =
     none_vacuous next (log_with log (items.Record (kinds.AbortTransaction reason) ∷ [])) (open_written log (items.Record (kinds.AbortTransaction reason) ∷ []))
-undoes_behind images next log item is means within few keeps made zero none =
+undoes_behind images next log item is means within few keeps made unmade none =
     undoes_more images next log (tip_state images) (tip_state next) item is means within keeps.calls made refl refl
 
 module _ (images next : Images) (log : Log) (first before : ℕ) (ends : List ℕ) (last : ℕ) (k : Keeps images log first before ends last) (item : Item) (t : TakesItem images next (pos (tip log)) item) where
@@ -326,13 +326,6 @@ module _ (images next : Images) (log : Log) (first before : ℕ) (ends : List �
       omega (arith, made, high, whole)
   zero_by false none = refl
 
-  empty_by : (b : Bool) → is_some (kept_at images (pos place)) ≡ b → above (cond b images (marked images (pos place))) (pos place) ≡ []
-  empty_by true some = none_above
-  empty_by false none =
-      filter-append (λ (m : ℤ × ℕ). int_lt (pos place) m.0) images.kept_made ((pos place, images.made) ∷ [])
-      ∙ (ap (λ xs. xs ++ filter (λ (m : ℤ × ℕ). int_lt (pos place) m.0) ((pos place, images.made) ∷ [])) none_above
-      ∙ ap (λ b. cond b ((pos place, images.made) ∷ []) []) (isnt_below place place (omega arith)))
-
   none_above : above images (pos place) ≡ []
   none_above =
       let low = k.low in
@@ -341,6 +334,13 @@ module _ (images next : Images) (log : Log) (first before : ℕ) (ends : List �
       ap (λ (ms : List (ℤ × ℕ)). filter (λ (m : ℤ × ℕ). int_lt (pos place) m.0) ms) k.counted
       ∙ (ap (λ b. cond b ((pos first, 0) ∷ rest) rest) (isnt_below place first (omega (arith, low, up)))
       ∙ none_counted log first before ends last k.rest place k.rise low k.each)
+
+  empty_by : (b : Bool) → is_some (kept_at images (pos place)) ≡ b → above (cond b images (marked images (pos place))) (pos place) ≡ []
+  empty_by true some = none_above
+  empty_by false none =
+      filter-append (λ (m : ℤ × ℕ). int_lt (pos place) m.0) images.kept_made ((pos place, images.made) ∷ [])
+      ∙ (ap (λ xs. xs ++ filter (λ (m : ℤ × ℕ). int_lt (pos place) m.0) ((pos place, images.made) ∷ [])) none_above
+      ∙ ap (λ b. cond b ((pos place, images.made) ∷ []) []) (isnt_below place place (omega arith)))
 
   undoes : UndoesWithin next behind
   undoes =

@@ -137,14 +137,14 @@ stands_on before after place item valid stands applied =
 
 -- these items are left, the first of which stands at the place
 pub record Applying (start now : Images) (place at : ℤ) (all left : List Item) (i : ℕ) : Type 0 where
-  pub all : apply_all_at (tip_state now) (log_place at) left ≡ apply_all_at (tip_state start) (log_place place) all
+  pub applied : apply_all_at (tip_state now) (log_place at) left ≡ apply_all_at (tip_state start) (log_place place) all
   pub stands : Stands now at
   pub above : 1 ≤ i → IsAbove now.kept at
   pub at_place : at ≡ place +ℤ pos i
 
 pub none_applied : (start : Images) (place : ℤ) (all : List Item) → Stands start place → Applying start start place place all all 0
 none_applied start place all stands = record {
-  all = refl;
+  applied = refl;
   stands = stands;
   above = λ some. absurd (omega (arith, some));
   at_place = sym (Rattle.std.proofs.Math.IntN.+ℤ_idr place);
@@ -162,10 +162,10 @@ pub one_applied : (start now next : Images) (place at : ℤ) (all : List Item) (
 one_applied start now next place at all item left i valid a applied =
     let on = stands_on now next at item valid a.stands applied in
     record {
-      all =
+      applied =
           ap (λ n. apply_all_at (tip_state next) n left) (next_place at a.stands.natural)
           ∙ (sym (ap (λ r. and_then r (λ (after : LogState). apply_all_at after (log_place at + 1) left)) applied.0)
-          ∙ a.all);
+          ∙ a.applied);
       stands = on.1;
       above = λ _. on.0;
       at_place = place_more place at i a.at_place;
@@ -175,11 +175,11 @@ one_applied start now next place at all item left i valid a applied =
 pub one_refused : (start now next : Images) (place at : ℤ) (all : List Item) (item : Item) (left : List Item) (i : ℕ) (cause : Ill) → Applying start now place at all (item ∷ left) i
     → IsItemApplied now next at item (Some cause) → AreApplied start next place all (Some cause)
 one_refused start now next place at all item left i cause a refused =
-    sym a.all ∙ ap (λ r. and_then r (λ (after : LogState). apply_all_at after (log_place at + 1) left)) refused
+    sym a.applied ∙ ap (λ r. and_then r (λ (after : LogState). apply_all_at after (log_place at + 1) left)) refused
 
 -- all have one
 pub all_applied : (start now : Images) (place at : ℤ) (all : List Item) (i : ℕ) → 1 ≤ i → Applying start now place at all [] i → AreApplied start now place all None × IsBeyond now at
 all_applied start now place at all i some a =
-    (sym a.all, record { natural = a.stands.natural; above = a.above some; keeps = a.stands.keeps })
+    (sym a.applied, record { natural = a.stands.natural; above = a.above some; keeps = a.stands.keeps })
 
 pub ruleset items_applied = (none_applied, may_stand)

@@ -39,16 +39,16 @@ found_stays (k ∷ kept) epoch =
       | true ↦ λ same.
           ap (λ b. find (λ (k : ℤ × Image). int_eq k.0 epoch) (cond b (k ∷ filter (stays epoch) kept) (filter (stays epoch) kept))) (here k epoch same)
           ∙ ap (λ b. cond b (Some k) (find (λ (k : ℤ × Image). int_eq k.0 epoch) (filter (stays epoch) kept))) same
-      | false ↦ λ other. apart (stays epoch k) other
+      | false ↦ λ other. apart (stays epoch k) other (found_stays kept epoch)
     ] refl
   where
     here : (k : ℤ × Image) (epoch : ℤ) → int_eq k.0 epoch ≡ true → stays epoch k ≡ true
     here k epoch same = ap (λ z. not (int_lt z epoch)) (same_id k.0 epoch same) ∙ ap (λ b. not b) (not_itself epoch)
 
-    apart : (b : Bool) → int_eq k.0 epoch ≡ false
+    apart : (b : Bool) → int_eq k.0 epoch ≡ false → find (λ (k : ℤ × Image). int_eq k.0 epoch) (filter (stays epoch) kept) ≡ find (λ (k : ℤ × Image). int_eq k.0 epoch) kept
         → find (λ (k : ℤ × Image). int_eq k.0 epoch) (cond b (k ∷ filter (stays epoch) kept) (filter (stays epoch) kept)) ≡ find (λ (k : ℤ × Image). int_eq k.0 epoch) kept
-    apart true other = ap (λ b. cond b (Some k) (find (λ (k : ℤ × Image). int_eq k.0 epoch) (filter (stays epoch) kept))) other ∙ found_stays kept epoch
-    apart false other = found_stays kept epoch
+    apart true other rest = ap (λ b. cond b (Some k) (find (λ (k : ℤ × Image). int_eq k.0 epoch) (filter (stays epoch) kept))) other ∙ rest
+    apart false other rest = rest
 
 still_kept : (images : Images) (epoch : ℤ) → kept_at (forgotten images epoch) epoch ≡ kept_at images epoch
 still_kept images epoch = ap (option_map (λ (k : ℤ × Image). k.1)) (found_stays images.kept epoch)
