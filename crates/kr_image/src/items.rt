@@ -32,7 +32,8 @@ pub(crate) fn apply_record<L: Ledger>(
     requires some { IsSome (last_kept (images_of timelines.old kept.now.items begun.old)) }
     ensures store { IsStoreWith timelines.new kept.now.items begun.new }
     ensures applied { Applies (images_of timelines.old kept.now.items begun.old)
-        (images_of timelines.new kept.now.items begun.new) result place.now (items.Record value.now) }
+        (images_of timelines.new kept.now.items begun.new) result place.now
+        (items.Record value.now) }
     ensures same { keeps_of timelines.new ≡ keeps_of timelines.old }
     ensures begun { OnOk result (begun.new ≡ begun.old) }
     ensures made { OnOk result (made_of timelines.new ≤

@@ -1,6 +1,6 @@
 -- Where no transaction is open in a store, none is after each of its calls.
 use Rattle.std.proofs.Common.{◌≡◌, ◌∙◌, ℤ, ℕ, zero, suc, ◌-◌, Bool, true, false, cond, List, [], ◌∷◌, ◌++◌, refl, sym, ap, subst, filter, length}
-use Rattle.std.specs.Prelude.{Option, Some, None, IfSome, IsTrue, find, int_lt, not, slice_get}
+use Rattle.std.specs.Prelude.{Result, Ok, Err, OnErr, OnOk, Option, Some, None, IfSome, IsTrue, find, int_lt, not, slice_get}
 use Rattle.std.specs.List.{AllByRecursion}
 use Rattle.std.specs.Option.{option_map}
 use Rattle.std.specs.Ordering.{int_eq}
@@ -11,7 +11,7 @@ use Rattle.kr_defs.proofs.Tests.{some_is}
 use Rattle.kr_store.specs.declared.places.ApplyFault.{ApplyFault}
 use Rattle.kr_store.specs.declared.places.ApplyFault.TheVariants as faults
 use Rattle.kr_store.specs.ItemAnswers.{IsFault}
-use Rattle.kr_store.specs.Images.{AreBegunFrom, Images, begun_at, begun_under, forgotten, kept_at, last_begun, marked, reverted}
+use Rattle.kr_store.specs.Images.{AreBegunFrom, Images, begun_at, begun_under, no_images, forgotten, kept_at, last_begun, marked, reverted}
 use Rattle.testlib_rule_answers.specs.Histories.{AreClosed}
 
 abbrev IsShut : ℤ × Option ℤ → Type 0
@@ -62,8 +62,15 @@ pub closed_failed : (before after : Images) (fault : ApplyFault) (place : ℤ) (
 closed_failed before after (faults.IllFormed there cause) place item failed same closed = subst AreClosed (sym failed.2) closed
 closed_failed before after faults.NoMemory place item failed same closed = closed_back before after failed.2 same closed
 
-pub closed_marked : (images : Images) (epoch : ℤ) → AreClosed images → AreClosed (marked images epoch)
+pub none_closed : AreClosed no_images
+none_closed = record { tip = refl; kept = tt }
+
+closed_marked : (images : Images) (epoch : ℤ) → AreClosed images → AreClosed (marked images epoch)
 closed_marked images epoch closed = record { tip = closed.tip; kept = more_shut images.kept_begun (epoch, images.begun) closed.kept closed.tip }
+
+pub mark_closes : {T E : Type 0} (result : Result T E) (before after : Images) (epoch : ℤ) → OnOk result (after ≡ marked before epoch) → OnErr result (after ≡ before) → AreClosed before → AreClosed after
+mark_closes (Ok done) before after epoch ok err closed = subst AreClosed (sym ok) (closed_marked before epoch closed)
+mark_closes (Err fault) before after epoch ok err closed = subst AreClosed (sym err) closed
 
 -- going back to an epoch, with the image that is kept there
 abbrev pub without_later : Images → ℤ → Image → Images
@@ -98,4 +105,4 @@ begun_from images epoch closed =
       kept = All-from_recursion (λ (b : ℤ × Option ℤ). IfSome b.1 (λ begin. IsTrue (not (int_lt begin epoch)))) left (all_from epoch left (some_shut (λ (b : ℤ × Option ℤ). not (int_lt b.0 epoch)) images.kept_begun closed.kept));
     }
 
-pub ruleset begins = (closed_on, begun_from, closed_marked)
+pub ruleset begins = (closed_on, none_closed)

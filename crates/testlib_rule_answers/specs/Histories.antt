@@ -19,11 +19,6 @@ pub record AreClosed (images : Images) : Type 0 where
   pub tip : images.begun ≡ None
   pub kept : AllByRecursion (λ (b : ℤ × Option ℤ). b.1 ≡ None) images.kept_begun
 
--- what is true of every history
-pub record IsHistory (images : Images) (epochs : List ℤ) : Type 0 where
-  pub are : AreEpochs images.kept epochs
-  pub closed : AreClosed images
-
 -- the record's image is the present one, or it has none for this cause and nothing has changed
 abbrev pub Judged : Images → Images → Record → Option Ill → Type 0
 Judged before after value None = (apply before.tip (items.Record value) ≡ Ok after.tip) × (after.kept ≡ before.kept)

@@ -2,10 +2,10 @@
 
 ghost use Rattle.std.specs.Prelude.{◌≡◌, ◌≤◌, OnOk, OnErr, IfOk, IsErr, IsSome, ◌↔◌, None, Some, filter, not, int_lt};
 ghost use Rattle.std.specs.List.{list_all};
-ghost use Rattle.kr_store.specs.Images.{no_images, marked, reverted, forgotten, kept_at, last_kept};
+ghost use Rattle.kr_store.specs.Images.{IsAbove, no_images, marked, reverted, forgotten, kept_at, last_kept};
 ghost use Rattle.testlib_rule_answers.specs.Histories.{AreClosed, IsCause, Judged};
 
-use kr_base::{NoEpoch, Steps};
+use kr_base::{NoEpoch, NoMemory, Steps};
 use kr_defs::{Ill, Record};
 use kr_image::ImageStore;
 use kr_store::{ApplyFault, Store};
@@ -25,13 +25,13 @@ pub struct History {
 
 impl Model for History {
     ghost use Rattle.kr_store.specs.Images.{Images};
-    ghost use Rattle.testlib_rule_answers.specs.Histories.{IsHistory};
+    ghost use Rattle.testlib_rule_answers.specs.Histories.{AreClosed, AreEpochs};
 
     ghost Value = { Images };
 
     ghost view = { λ h. h.store };
 
-    ghost invariant = { λ h. IsHistory h.store h.epochs.items };
+    ghost invariant = { λ h. AreEpochs h.store.kept h.epochs.items × AreClosed h.store };
 }
 
 fn are_below(epochs: &[i64], limit: &i64) -> bool
@@ -92,7 +92,15 @@ fn revert_store<L: Ledger>(
     store.revert(*epoch, steps)
 }
 
-#[tactic(auto, using(crate::proofs::ClosedStores::begins))]
+fn mark_store(store: &mut ImageStore, epoch: &i64) -> Result<(), NoMemory>
+    requires { IsAbove store.old.kept epoch.now }
+    ensures ok { OnOk result (store.new ≡ marked store.old epoch.now) }
+    ensures err { OnErr result (store.new ≡ store.old) }
+    ensures closed { AreClosed store.old → AreClosed store.new }
+{
+    store.mark(*epoch)
+}
+
 fn forget_store<L: Ledger>(store: &mut ImageStore, epoch: &i64, steps: &mut Steps<L>)
     requires { AreClosed store.old }
     ensures { store.new ≡ forgotten store.old epoch.now }
@@ -102,6 +110,7 @@ fn forget_store<L: Ledger>(store: &mut ImageStore, epoch: &i64, steps: &mut Step
 
 impl History {
     /// The empty image, and none that is kept.
+    #[tactic(auto, using(crate::proofs::ClosedStores::begins))]
     pub fn new(alloc: Global) -> History
         ensures { result ≡ no_images }
     {
@@ -112,7 +121,7 @@ impl History {
     }
 
     /// Keeps the present image under the epoch, where that is above each kept one.
-    #[tactic(auto, using(crate::proofs::EpochRows::kept, crate::proofs::ClosedStores::begins))]
+    #[tactic(auto, using(crate::proofs::EpochRows::kept))]
     pub fn mark(&mut self, epoch: i64) -> Result<(), RowFault>
         ensures ok { OnOk result (self.new ≡ marked self.old epoch) }
     {
@@ -120,7 +129,7 @@ impl History {
             return Err(RowFault::Fields);
         }
         self.epochs.reserve(1)?;
-        self.store.mark(epoch)?;
+        mark_store(&mut self.store, &epoch)?;
         self.epochs.push_reserved(epoch);
         Ok(())
     }
