@@ -119,8 +119,8 @@ module _ (before : State) (options : Options) (r : State) (log : Log) (greatest 
     up_to_alike true = k
     up_to_alike false = written_alike before s r k (items.Control ∷ [])
 
-    pub times : time ≡ r.basis.time
-    times = let first = k.time in omega (arith, ints, clamps, first, due)
+    pub led_times : time ≡ r.basis.time
+    led_times = let first = k.time in omega (arith, ints, clamps, first, due)
 
     -- it leads, from this place on, and nothing is given up yet
     abbrev pub begun : State → State
@@ -166,7 +166,7 @@ module _ (before : State) (options : Options) (r : State) (log : Log) (greatest 
           led = λ _. (due, refl);
           contacts =
               ap (λ (i : Image). (begin (unfenced i) (stopping i) time next).contacts) image
-              ∙ ap (λ t. (begin (unfenced behind) (stopping behind) t next).contacts) times;
+              ∙ ap (λ t. (begin (unfenced behind) (stopping behind) t next).contacts) led_times;
           stopping = ap (λ (i : Image). (begin (unfenced i) (stopping i) time next).stopping) image;
         }
 

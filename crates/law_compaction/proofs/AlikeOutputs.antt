@@ -31,7 +31,7 @@ use Rattle.kr_model.specs.Tick.{fence, fencing_of, lapsed_contacts}
 use Rattle.kr_model.specs.Lead.{giving_up, taking_over}
 use Rattle.kr_model.specs.World.{State, closed_of, image_of_closed, image_of_tip, tip_of}
 use Rattle.law_compaction.specs.ReplacedPrefix.{IsLater, unnumbered}
-use Rattle.law_compaction.proofs.AlikeEvents.{AlikeResults, IsDue, asked_alike, at_time, begun, begun_so, is_due, outcomes, same_decided, same_given_up, same_lapsed, stays_alike, times}
+use Rattle.law_compaction.proofs.AlikeEvents.{AlikeResults, IsDue, asked_alike, at_time, begun, begun_so, is_due, led_times, outcomes, same_decided, same_given_up, same_lapsed, stays_alike}
 use Rattle.law_compaction.proofs.AlikeStates.{Alike, fenced_alike, is_with_past, same_bases, same_closed_ends, same_closed_images, same_images, same_times, same_tips, with_past}
 use Rattle.kr_model.proofs.OrderlyStates.{IsOrderly, goes_on, none_lapses, stays_orderly, timed_orderly}
 
@@ -100,7 +100,7 @@ module _ (before : State) (options : Options) (r : State) (log : Log) (greatest 
       let first = begun before options r log greatest count time led k o epoch next due s in
       let second = begun before options r log greatest count time led k o epoch next due r in
       ap (λ (records : List Record). append (taking_over s epoch next) records) (same_given_up before options r log greatest count time led k o epoch next due)
-      ∙ same_append before options (giving_up (taking_over r epoch next).world) first second (begun_so before options r log greatest count time led k o epoch next due) (times before options r log greatest count time led k o epoch next due)
+      ∙ same_append before options (giving_up (taking_over r epoch next).world) first second (begun_so before options r log greatest count time led k o epoch next due) (led_times before options r log greatest count time led k o epoch next due)
 
   same_appends : (event : Event) → IsDue before r event → appends options s event ≡ appends options r event
   same_appends (events.Lead epoch next now) due = abort_by epoch next due.1
