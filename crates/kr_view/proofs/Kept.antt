@@ -327,7 +327,7 @@ module _ (old mid : Images) (end next : ℤ) (pins : List Pin) (s : IsStandingAt
   next_is : next ≡ (fold run_with (reached_in old end) entries).end
   next_is = ap (λ (r : Reached). r.end) run
 
-  with_pinned : Reached → PinnedLog
+  abbrev with_pinned : Reached → PinnedLog
   with_pinned r = record { at = r; pinned = map (pin_image old) pins }
 
   -- the end is among what is kept
