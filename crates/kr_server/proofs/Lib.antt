@@ -1,5 +1,9 @@
 mod Ends
+mod HeldPlaces
 mod Lists
+mod LostPins
+mod PageCalls
+mod Pages
 mod Readings
 mod Refusals
 mod Replies

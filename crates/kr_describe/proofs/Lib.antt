@@ -1,0 +1,9 @@
+pub mod Going
+pub mod LineSteps
+pub mod LookedUp
+pub mod NamedLines
+pub mod NamesInOrder
+pub mod PutTogether
+pub mod ShownParts
+pub mod SoFar
+pub mod ValidImages

@@ -1,0 +1,3 @@
+pub mod RecordFields
+pub mod ShownLines
+pub mod SteadyReads
