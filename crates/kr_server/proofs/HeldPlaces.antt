@@ -81,3 +81,5 @@ keeps_given old new place is = record {
   room = λ room. subst (λ (all : List ℤ). length all < MOST_PLACES) (sym is) (room_without place old.held room);
   alone = λ one. is ∙ alone_without place old.held one;
 }
+
+pub ruleset places = (keeps_same, keeps_nothing, keeps_more, keeps_taken, keeps_given)

@@ -1,4 +1,5 @@
 mod Ends
+mod Exchanged
 mod HeldPlaces
 mod Lists
 mod LostPins

@@ -166,7 +166,7 @@ module _ (cursor : Option LineKey) (before : Holder) (old got : Client) (place :
     made_as : (pin : Option Pin) → described ≡ page (image_below place got.seen.list) d → IsTrue (is_kept_in got.seen.list place) → cursor ≡ d.cursor → KeepsFor described.next got ready.pin new pin → IsHeld left (holder new pin) → IsMade before new left place d described
     made_as pin shown kept asked ends is_held = record {
       pin = pin;
-      page = record {
+      paged = record {
         first = ready.first;
         own = ready.own;
         begins = subst (λ (o : Option LineKey). HoldsFor o before.pin before.seat ready.first ready.own) asked ready.begins;
@@ -178,7 +178,7 @@ module _ (cursor : Option LineKey) (before : Holder) (old got : Client) (place :
         reads = reads;
         at = ready.at;
         kept = kept;
-        page = shown;
+        shows = shown;
         ends = ends;
       };
       is_held = is_held;

@@ -24,18 +24,6 @@ use Rattle.kr_server.proofs.Lists.{each_both, each_one, tells_more, tells_none, 
 use Rattle.kr_server.proofs.Replies.{wrote_in_part, wrote_more, wrote_none, wrote_same}
 use Rattle.kr_server.proofs.Writes.{asks_without_page, exchanged_more, exchanged_none, pushes_no_more, pushes_refused, pushes_those, pushes_unread, pushes_without_memory}
 
--- ---- a read fault comes of the source alone
-
-abbrev err_of : {T : Type 0} → ServeEnd → Result T ServeEnd → ServeEnd
-err_of other (Ok t) = other
-err_of other (Err end) = end
-
-pub never_reads : {T : Type 0} (message : List ℕ) (old new : Connection) (pin : Option Pin) (end : ServeEnd) → IsNotAnswered message old new pin end → IsErrOf {T = T} (Err end) ends.ReadFault → ⊥
-never_reads message old new pin end n is =
-    let same : end ≡ ends.ReadFault = ap (err_of end) is in
-    let none = subst (IsNotAnswered message old new pin) same n in
-    none.1
-
 -- ---- one message after the other
 
 -- before the first message

@@ -102,7 +102,7 @@ pub record IsPaged (old : Client) (held : Option Pin) (new : Client) (left : Opt
   pub reads : ReadsRecords ready got
   pub at : place ≡ pin.place
   pub kept : IsTrue (is_kept_in got.seen.list place)
-  pub page : described ≡ page (image_below place got.seen.list) describe
+  pub shows : described ≡ page (image_below place got.seen.list) describe
   pub ends : KeepsFor described.next got pin new left
 
 -- ---- no page

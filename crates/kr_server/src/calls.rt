@@ -28,6 +28,7 @@ use std::alloc::Global;
 use std::sync::Wait;
 
 /// What the seat answers to the message, or how the connection ends.
+#[tactic(auto, using(crate::proofs::HeldPlaces::places, crate::proofs::Exchanged::came_same))]
 pub(crate) fn exchange<R: Wait>(
     rt: &R,
     alloc: Global,

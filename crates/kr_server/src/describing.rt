@@ -50,6 +50,7 @@ fn fault_end(fault: PageFault) -> Option<ServeEnd>
 }
 
 // The place for a page: the one that is held, where the walk goes on, and else the committed end.
+#[tactic(auto, using(crate::proofs::HeldPlaces::places))]
 fn begin<R: Wait>(
     rt: &R,
     seat: &mut ClientSeat,
@@ -71,6 +72,7 @@ fn begin<R: Wait>(
 }
 
 // The place is given back where no line is left.
+#[tactic(auto, using(crate::proofs::HeldPlaces::places))]
 fn finish<R: Wait>(
     rt: &R,
     seat: &mut ClientSeat,
@@ -84,6 +86,7 @@ fn finish<R: Wait>(
 }
 
 // Reads the page at the place that is held. Where the pin is lost, the committed end is held instead.
+#[tactic(auto, using(crate::proofs::HeldPlaces::places))]
 fn describe_once<R: Wait>(
     rt: &R,
     alloc: Global,
@@ -117,6 +120,7 @@ fn describe_once<R: Wait>(
 
 /// The page that is asked for, and the place that it is of: that of the page before, where there is a cursor and its pin isn't lost,
 /// and else the committed end. The place is held while lines are left.
+#[tactic(auto, using(crate::proofs::HeldPlaces::places))]
 pub(crate) fn describe_page<R: Wait>(
     rt: &R,
     alloc: Global,

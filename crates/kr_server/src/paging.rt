@@ -46,6 +46,7 @@ impl Paging {
     }
 
     /// Gives back the place that is held, if one is.
+    #[tactic(auto, using(crate::proofs::HeldPlaces::places))]
     pub fn let_go<R: Wait>(&mut self, rt: &R, seat: &mut ClientSeat) -> Result<(), SubmitFault>
         ensures gave { GaveBack self.old.held seat.old seat.new self.new.held result }
         ensures places { KeepsPlaces seat.old self.old.held seat.new self.new.held }
@@ -59,6 +60,7 @@ impl Paging {
     }
 
     // Holds the committed end.
+    #[tactic(auto, using(crate::proofs::HeldPlaces::places))]
     fn take<R: Wait>(&mut self, rt: &R, seat: &mut ClientSeat) -> Result<i64, SubmitFault>
         requires none { self.old.held ≡ None }
         requires room { HasRoom seat.old.held self.old.held }
@@ -71,6 +73,7 @@ impl Paging {
     }
 
     /// Holds the committed end, once the place that is held is given back.
+    #[tactic(auto, using(crate::proofs::HeldPlaces::places))]
     pub fn renew<R: Wait>(&mut self, rt: &R, seat: &mut ClientSeat) -> Result<i64, SubmitFault>
         requires { HasRoom seat.old.held self.old.held }
         ensures renewed { Renewed self.old.held seat.old seat.new self.new.held result }

@@ -34,6 +34,7 @@ fn answer_message<R: Wait, K: Sink, T: Transcript>(
     ensures answered { AnswersOne K.written T.list message.now sink.old sink.new transcript.old
         transcript.new seat.old seat.new paging.old.held paging.new.held result }
     ensures places { KeepsPlaces seat.old paging.old.held seat.new paging.new.held }
+    ensures unread { IsErrOf result ServeEnd.ReadFault → ⊥ }
     ensures write { IsErrOf result ServeEnd.WriteFault →
         Rose (K.faults sink.old) (K.faults sink.new) }
     ensures later { K.faults sink.old ≤ K.faults sink.new }
@@ -93,6 +94,7 @@ fn serve_message<R: Wait, S: Source, K: Sink, T: Transcript>(
 }
 
 // Serves one message after the other.
+#[tactic(auto, using(crate::proofs::HeldPlaces::places))]
 fn serve_messages<R: Wait, S: Source, K: Sink, T: Transcript>(
     rt: &R,
     alloc: Global,

@@ -58,7 +58,7 @@ pub record IsReady (cursor : Option LineKey) (old : Holder) (seat : Client) (pla
 -- the page is made, and the place is held on or given back
 pub record IsMade (old : Holder) (seat : Client) (left : Option ℤ) (place : ℤ) (describe : Describe) (described : Described) : Type 0 where
   pub pin : Option Pin
-  pub page : IsPaged old.seat old.pin seat pin place describe described
+  pub paged : IsPaged old.seat old.pin seat pin place describe described
   pub is_held : IsHeld left (holder seat pin)
 
 -- ---- calls
@@ -118,7 +118,7 @@ TriedOnce old seat left place describe (trials.Lost next) = IsReady describe.cur
 -- what a read of a page leaves
 pub record PageRead (old new : Client) (place : ℤ) (describe : Describe) (result : Result Described PageFault) : Type 0 where
   pub reads : ReadsRecords old new
-  pub page : IfOk result (λ described. described ≡ page (image_below place new.seen.list) describe)
+  pub shows : IfOk result (λ described. described ≡ page (image_below place new.seen.list) describe)
   pub kept : OnOk result (IsTrue (is_kept_in new.seen.list place))
   pub stop : IfErr result (IsPageStop place old.seen.list new.seen.list)
   pub cause : HasPageCause (client_reading old) (client_reading new) result
