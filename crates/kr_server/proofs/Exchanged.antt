@@ -18,7 +18,7 @@ use Rattle.kr_server.specs.Exchanges.{IsAskedFor, SizedReplyFits, sized_reply}
 use Rattle.kr_server.specs.SeatCalls.{Holder, IsExchanged, IsRefusedPage, IsWithoutMemory, for_ask, for_exchange, for_page, holder}
 use Rattle.kr_server.specs.Served.{Connection, connection}
 use Rattle.kr_server.specs.Told.{TellsMore}
-use Rattle.kr_server.specs.inner.Paging.{IsHeld, IsNoPage}
+use Rattle.kr_server.specs.inner.Paging.{IsPinPlace, IsNoPage}
 use Rattle.kr_server.specs.inner.Serving.{CameOf, IsAnsweredBy, IsAnsweredInPart, IsNotAnswered, IsNotExchanged, IsSilent}
 use Rattle.kr_server.proofs.Lists.{tells_none}
 use Rattle.kr_server.proofs.LostPins.{kept_on}
@@ -29,10 +29,10 @@ some_kept_on : (old new : Client) (pin : Option Pin) → Onward old.seen new.see
 some_kept_on old new None on kept = kept
 some_kept_on old new (Some pin) on kept = kept_on pin old.seen.list new.seen.list kept on.list
 
-held_on : (held : Option ℤ) (old new : Client) (pin : Option Pin) → Onward old.seen new.seen → IsHeld held (holder old pin) → IsHeld held (holder new pin)
+held_on : (held : Option ℤ) (old new : Client) (pin : Option Pin) → Onward old.seen new.seen → IsPinPlace held (holder old pin) → IsPinPlace held (holder new pin)
 held_on held old new pin on h = record { is = h.is; kept = some_kept_on old new pin on h.kept }
 
-pub came_same : (held : Option ℤ) (old new : Client) (pin : Option Pin) (x : Exchange) → Onward old.seen new.seen → IsHeld held (holder old pin) → IsExchanged (holder old pin) (holder new pin) x → CameOf (holder old pin) new held x
+pub came_same : (held : Option ℤ) (old new : Client) (pin : Option Pin) (x : Exchange) → Onward old.seen new.seen → IsPinPlace held (holder old pin) → IsExchanged (holder old pin) (holder new pin) x → CameOf (holder old pin) new held x
 came_same held old new pin x on h is = record { left = pin; exchanged = is; is_held = held_on held old new pin on h }
 
 -- ---- a page that isn't there

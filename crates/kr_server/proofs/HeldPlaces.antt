@@ -9,7 +9,7 @@ use Rattle.kr_shared.specs.declared.places.TheConstants.{MOST_PLACES}
 use Rattle.kr_shared.specs.Clients.{Client}
 use Rattle.kr_shared.specs.HeldPlaces.{with_place, without_place}
 use Rattle.kr_server.specs.PagingCalls.{PinsOne, Unpins}
-use Rattle.kr_server.specs.inner.Paging.{HasRoom, HoldsAlone, KeepsPlaces}
+use Rattle.kr_server.specs.inner.Paging.{HasPlaceLeft, HoldsAlone, KeepsPlaces}
 
 module _ (place : ℤ) where
   abbrev is_own : ℤ → Bool
@@ -24,8 +24,8 @@ module _ (place : ℤ) where
   there_at_last [] = ap (λ b. b || false) own
   there_at_last (p ∷ held) = elim (is_own p) as (λ b. (b || list_any is_own (held ++ place ∷ [])) ≡ true) [ true ↦ refl | false ↦ there_at_last held ]
 
-  room_with : (held : List ℤ) → length held < MOST_PLACES → HasRoom (with_place held place) (Some place)
-  room_with held few = elim (list_any is_own held) as (λ b. list_any is_own held ≡ b → HasRoom (cond b held (held ++ place ∷ [])) (Some place)) [
+  room_with : (held : List ℤ) → length held < MOST_PLACES → HasPlaceLeft (with_place held place) (Some place)
+  room_with held few = elim (list_any is_own held) as (λ b. list_any is_own held ≡ b → HasPlaceLeft (cond b held (held ++ place ∷ [])) (Some place)) [
     | true ↦ λ there. (omega (arith, few), there)
     | false ↦ λ away. let long = length-append held (place ∷ []) in (omega (arith, few, long), there_at_last held)
   ] refl
@@ -49,7 +49,7 @@ module _ (place : ℤ) where
         | false ↦ λ any. let rest = fewer held any in omega (arith, rest)
       ] there
 
-  room_without : (held : List ℤ) → HasRoom held (Some place) → length (without_place held place) < MOST_PLACES
+  room_without : (held : List ℤ) → HasPlaceLeft held (Some place) → length (without_place held place) < MOST_PLACES
   room_without held room = let less = fewer held room.1 in let few = room.0 in omega (arith, less, few)
 
   alone_without : (held : List ℤ) → held ≡ place ∷ [] → without_place held place ≡ []
@@ -60,7 +60,7 @@ module _ (place : ℤ) where
 
 pub keeps_same : (old new : Client) (held : Option ℤ) → new.held ≡ old.held → KeepsPlaces old held new held
 keeps_same old new held same = record {
-  room = subst (λ (all : List ℤ). HasRoom all held) (sym same);
+  room = subst (λ (all : List ℤ). HasPlaceLeft all held) (sym same);
   alone = subst (λ (all : List ℤ). HoldsAlone all held) (sym same);
 }
 
@@ -72,7 +72,7 @@ keeps_more a b c held mid left first then = record { room = λ r. then.room (fir
 
 pub keeps_taken : (old new : Client) (place : ℤ) → new.held ≡ with_place old.held place → KeepsPlaces old None new (Some place)
 keeps_taken old new place is = record {
-  room = λ few. subst (λ (all : List ℤ). HasRoom all (Some place)) (sym is) (room_with place old.held few);
+  room = λ few. subst (λ (all : List ℤ). HasPlaceLeft all (Some place)) (sym is) (room_with place old.held few);
   alone = λ none. subst (λ (all : List ℤ). HoldsAlone all (Some place)) (sym is) (alone_with place old.held none);
 }
 

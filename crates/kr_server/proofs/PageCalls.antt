@@ -20,8 +20,8 @@ use Rattle.kr_shared.proofs.Misses.{may_rise_behind}
 use Rattle.kr_shared.proofs.Onwards.{onward_refl, onward_trans}
 use Rattle.kr_server.specs.declared.end.ServeEnd.{ServeEnd}
 use Rattle.kr_server.specs.declared.end.ServeEnd.TheVariants as ends
-use Rattle.kr_server.specs.PagingCalls.{HoldsFor, HoldsOn, IsPageEnd, IsPaged, IsPlaceRefused, KeepsFor, PinsOne, ReadsRecords, Unpins, no_pin, no_unpin}
-use Rattle.kr_server.specs.SeatCalls.{AsksForPages, is_write, writes_in}
+use Rattle.kr_server.specs.PagingCalls.{HoldsFor, HoldsOn, IsPageEnd, IsPageExchange, IsPlaceRefused, KeepsFor, PinsOne, ReadsRecords, Unpins, no_pin, no_unpin}
+use Rattle.kr_server.specs.SeatCalls.{AsksForPages, is_write, writes_among}
 
 -- ---- one after the other
 
@@ -44,25 +44,25 @@ no_write : (old new : Client) (wanted : Wanted) → is_write (job_of_wanted old.
 no_write old new wants.Pin = refl
 no_write old new (wants.Unpin place) = refl
 
-without_others : (xs : List Job) (job : Job) → is_write job ≡ false → writes_in (xs ++ job ∷ []) ≡ writes_in xs
+without_others : (xs : List Job) (job : Job) → is_write job ≡ false → writes_among (xs ++ job ∷ []) ≡ writes_among xs
 without_others xs job other =
     filter-append is_write xs (job ∷ [])
-    ∙ (ap (λ b. writes_in xs ++ cond b (job ∷ []) []) other ∙ append-nil (writes_in xs))
+    ∙ (ap (λ b. writes_among xs ++ cond b (job ∷ []) []) other ∙ append-nil (writes_among xs))
 
-pushed_place : (old new : Client) (wanted : Wanted) → PushedPlace old new wanted → writes_in new.pushed ≡ writes_in old.pushed
-pushed_place old new wanted pushed = ap writes_in pushed ∙ without_others old.pushed (job_of_wanted old.number new.ticket (end_of old.seen.list) wanted) (no_write old new wanted)
+pushed_place : (old new : Client) (wanted : Wanted) → PushedPlace old new wanted → writes_among new.pushed ≡ writes_among old.pushed
+pushed_place old new wanted pushed = ap writes_among pushed ∙ without_others old.pushed (job_of_wanted old.number new.ticket (end_of old.seen.list) wanted) (no_write old new wanted)
 
-or_pushed : (old new : Client) (wanted : Wanted) → (new.pushed ≡ old.pushed) ⊎ PushedPlace old new wanted → writes_in new.pushed ≡ writes_in old.pushed
-or_pushed old new wanted (inl same) = ap writes_in same
+or_pushed : (old new : Client) (wanted : Wanted) → (new.pushed ≡ old.pushed) ⊎ PushedPlace old new wanted → writes_among new.pushed ≡ writes_among old.pushed
+or_pushed old new wanted (inl same) = ap writes_among same
 or_pushed old new wanted (inr pushed) = pushed_place old new wanted pushed
 
-pushed_at_fault : (old new : Client) (wanted : Wanted) (fault : SubmitFault) → PushedPlaceAtFault old new wanted fault → writes_in new.pushed ≡ writes_in old.pushed
+pushed_at_fault : (old new : Client) (wanted : Wanted) (fault : SubmitFault) → PushedPlaceAtFault old new wanted fault → writes_among new.pushed ≡ writes_among old.pushed
 pushed_at_fault old new wanted (submits.Ended number) p = or_pushed old new wanted p
 pushed_at_fault old new wanted (submits.Ahead floor tip) p = pushed_place old new wanted p
 pushed_at_fault old new wanted (submits.Exhausted tip) p = absurd p
 pushed_at_fault old new wanted submits.NoMemory p = or_pushed old new wanted p
 
-unpin_writes : (old new : Client) (place : ℤ) (result : Result (Unit {0}) SubmitFault) → Unpins old new place result → writes_in new.pushed ≡ writes_in old.pushed
+unpin_writes : (old new : Client) (place : ℤ) (result : Result (Unit {0}) SubmitFault) → Unpins old new place result → writes_among new.pushed ≡ writes_among old.pushed
 unpin_writes old new place (Ok done) u = pushed_place old new (wants.Unpin place) u.pushed
 unpin_writes old new place (Err fault) u = pushed_at_fault old new (wants.Unpin place) fault u.pushed
 
@@ -73,7 +73,7 @@ pub asks_pin : (old new : Client) (pin : Pin) → PinsOne old new pin → AsksFo
 asks_pin old new pin p = record { onward = p.onward; misses = p.misses; writes = pushed_place old new wants.Pin p.pushed }
 
 pub asks_records : (old new : Client) → ReadsRecords old new → AsksForPages old new
-asks_records old new r = record { onward = r.onward; misses = r.misses; writes = ap (λ (c : Client). writes_in c.pushed) r.same }
+asks_records old new r = record { onward = r.onward; misses = r.misses; writes = ap (λ (c : Client). writes_among c.pushed) r.same }
 
 pub asks_refused : (old new : Client) (fault : SubmitFault) → IsPlaceRefused old new fault → AsksForPages old new
 asks_refused old new fault (no_pin cause onward misses) = record { onward = onward; misses = misses; writes = pushed_at_fault old new wants.Pin fault cause.pushed }
@@ -99,7 +99,7 @@ asks_to_keep (Some next) old held new left k = asks_same old new k.0
 asks_to_keep None old held new left k = asks_unpin old new held.place (Ok tt) k.0
 
 module _ (old new : Client) (held left : Option Pin) where
-  pub asks_for_page : (place : ℤ) (d : Describe) (described : Described) → IsPaged old held new left place d described → AsksForPages old new
+  pub asks_for_page : (place : ℤ) (d : Describe) (described : Described) → IsPageExchange old held new left place d described → AsksForPages old new
   asks_for_page place d described p =
       asks_more old p.ready new
         (asks_more old p.first p.ready (asks_to_hold d.cursor held old p.first p.own p.begins) (asks_on p.first p.own p.others p.ready p.pin p.holds))

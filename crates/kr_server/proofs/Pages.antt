@@ -22,9 +22,9 @@ use Rattle.kr_shared.specs.Grants.{IsKeptFrom, pin_at}
 use Rattle.kr_server.specs.declared.describing.Tried.TheVariants as trials
 use Rattle.kr_server.specs.declared.end.ServeEnd.{ServeEnd}
 use Rattle.kr_server.specs.declared.end.ServeEnd.TheVariants as ends
-use Rattle.kr_server.specs.PagingCalls.{HoldsFor, HoldsOn, IsLost, IsPageEnd, IsPaged, IsPlaceRefused, KeepsFor, PinsOne, ReadsRecords, Unpins, no_pin, no_unpin}
+use Rattle.kr_server.specs.PagingCalls.{HoldsFor, HoldsOn, IsLost, IsPageEnd, IsPageExchange, IsPlaceRefused, KeepsFor, PinsOne, ReadsRecords, Unpins, no_pin, no_unpin}
 use Rattle.kr_server.specs.SeatCalls.{AsksForPages, Holder, holder}
-use Rattle.kr_server.specs.inner.Paging.{Begun, Finished, GaveBack, IsHeld, IsMade, IsNoPage, IsPlaceEnd, IsReady, PageRead, Renewed, TookOne, TriedOnce, fault_end}
+use Rattle.kr_server.specs.inner.Paging.{Begun, Finished, GaveBack, IsPinPlace, IsPageMade, IsNoPage, IsPlaceEnd, IsReadyFor, PageRead, Renewed, TookOne, TriedOnce, fault_end}
 use Rattle.kr_server.specs.inner.Serving.{refusal_end}
 use Rattle.kr_server.proofs.LostPins.{is_lost, kept_on}
 use Rattle.kr_server.proofs.PageCalls.{asks_more, asks_nothing, asks_pin, asks_records, asks_same, asks_unpin}
@@ -75,7 +75,7 @@ no_cursor (Some key) is = absurd cc
 
 module _ (cursor : Option LineKey) (old : Client) where
   -- where the walk goes on
-  held_on : (pin : Pin) (place : ℤ) (key : LineKey) → place ≡ pin.place → IsKeptFrom old.seen.list pin → IsReady (Some key) (holder old (Some pin)) old place
+  held_on : (pin : Pin) (place : ℤ) (key : LineKey) → place ≡ pin.place → IsKeptFrom old.seen.list pin → IsReadyFor (Some key) (holder old (Some pin)) old place
   held_on pin place key at kept = record {
     first = old;
     own = pin;
@@ -87,16 +87,16 @@ module _ (cursor : Option LineKey) (old : Client) where
     kept = kept;
   }
 
-  pub goes_on : (pin : Option Pin) (place : ℤ) → is_some cursor ≡ true → IsHeld (Some place) (holder old pin) → IsReady cursor (holder old pin) old place
+  pub goes_on : (pin : Option Pin) (place : ℤ) → is_some cursor ≡ true → IsPinPlace (Some place) (holder old pin) → IsReadyFor cursor (holder old pin) old place
   goes_on pin place is held =
       let key = some_cursor cursor is in
       let own = pins_place pin place held.is in
       let kept : IsKeptFrom old.seen.list own.0 = subst (λ (o : Option Pin). IfSome o (λ p. IsKeptFrom old.seen.list p)) own.1 held.kept in
       let ready = held_on own.0 place key.0 own.2 kept in
-      subst (λ (o : Option Pin). IsReady cursor (holder old o) old place) (sym own.1) (subst (λ (o : Option LineKey). IsReady o (holder old (Some own.0)) old place) (sym key.1) ready)
+      subst (λ (o : Option Pin). IsReadyFor cursor (holder old o) old place) (sym own.1) (subst (λ (o : Option LineKey). IsReadyFor o (holder old (Some own.0)) old place) (sym key.1) ready)
 
   -- a new one
-  begun_at : (pin : Option Pin) (new : Client) (place : ℤ) (own : Pin) → own.place ≡ place → IsKeptFrom new.seen.list own → HoldsFor cursor pin old new own → IsReady cursor (holder old pin) new place
+  begun_at : (pin : Option Pin) (new : Client) (place : ℤ) (own : Pin) → own.place ≡ place → IsKeptFrom new.seen.list own → HoldsFor cursor pin old new own → IsReadyFor cursor (holder old pin) new place
   begun_at pin new place own at kept begins = record {
     first = new;
     own = own;
@@ -112,14 +112,14 @@ module _ (cursor : Option LineKey) (old : Client) where
   first_pin None new own p = p
   first_pin (Some key) new own p = p
 
-  pub begun_first : (pin : Option Pin) (new : Client) (left : Option ℤ) (result : Result ℤ SubmitFault) → IsHeld None (holder old pin) → Renewed None old new left result → Begun cursor (holder old pin) new result
+  pub begun_first : (pin : Option Pin) (new : Client) (left : Option ℤ) (result : Result ℤ SubmitFault) → IsPinPlace None (holder old pin) → Renewed None old new left result → Begun cursor (holder old pin) new result
   begun_first pin new left (Ok place) held r =
       let own = pin_at r.0.number new.ticket place in
       let pinned : PinsOne old new own = subst (λ (c : Client). PinsOne c new own) r.1.1 r.2.0 in
-      subst (λ (o : Option Pin). IsReady cursor (holder old o) new place) (sym (no_pin_held pin held.is)) (begun_at None new place own refl pinned.kept (first_pin cursor new own pinned))
+      subst (λ (o : Option Pin). IsReadyFor cursor (holder old o) new place) (sym (no_pin_held pin held.is)) (begun_at None new place own refl pinned.kept (first_pin cursor new own pinned))
   begun_first pin new left (Err fault) held r = r
 
-  pub begun_again : (pin : Option Pin) (before : ℤ) (new : Client) (left : Option ℤ) (result : Result ℤ SubmitFault) → is_some cursor ≡ false → IsHeld (Some before) (holder old pin) → Renewed (Some before) old new left result → Begun cursor (holder old pin) new result
+  pub begun_again : (pin : Option Pin) (before : ℤ) (new : Client) (left : Option ℤ) (result : Result ℤ SubmitFault) → is_some cursor ≡ false → IsPinPlace (Some before) (holder old pin) → Renewed (Some before) old new left result → Begun cursor (holder old pin) new result
   begun_again pin before new left (Ok place) is held r =
       let own = pins_place pin before held.is in
       let next = pin_at r.0.number new.ticket place in
@@ -141,11 +141,11 @@ holds_more old held [] mid pin read gone new next h reads lost gave took =
 holds_more old held (other ∷ others) mid pin read gone new next h reads lost gave took =
     (h.0, h.1, h.2, h.3, h.4, h.5, h.6, holds_more h.2 other others mid pin read gone new next h.7 reads lost gave took)
 
-module _ (cursor : Option LineKey) (before : Holder) (old got : Client) (place : ℤ) (ready : IsReady cursor before old place) (reads : ReadsRecords old got) where
+module _ (cursor : Option LineKey) (before : Holder) (old got : Client) (place : ℤ) (ready : IsReadyFor cursor before old place) (reads : ReadsRecords old got) where
   kept_there : IsKeptFrom got.seen.list ready.pin
   kept_there = kept_on ready.pin old.seen.list got.seen.list ready.kept reads.onward.list
 
-  pub lost_place : (new : Client) (left : Option ℤ) (next : ℤ) (fault : PageFault) → fault_end fault ≡ None → IsPageStop place old.seen.list got.seen.list fault → Renewed (Some place) got new left (Ok next) → IsReady cursor before new next
+  pub lost_place : (new : Client) (left : Option ℤ) (next : ℤ) (fault : PageFault) → fault_end fault ≡ None → IsPageStop place old.seen.list got.seen.list fault → Renewed (Some place) got new left (Ok next) → IsReadyFor cursor before new next
   lost_place new left next fault none stop r =
       let lost = is_lost ready.pin old.seen.list got.seen.list ready.kept reads.onward.list fault none (subst (λ (i : ℤ). IsPageStop i old.seen.list got.seen.list fault) ready.at stop) in
       let gave : Unpins got r.0 ready.pin.place (Ok tt) = subst (λ (i : ℤ). Unpins got r.0 i (Ok tt)) ready.at r.1.0 in
@@ -163,7 +163,7 @@ module _ (cursor : Option LineKey) (before : Holder) (old got : Client) (place :
 
   -- it is made
   module _ (d : Describe) (described : Described) (new : Client) (left : Option ℤ) where
-    made_as : (pin : Option Pin) → described ≡ page (image_below place got.seen.list) d → IsTrue (is_kept_in got.seen.list place) → cursor ≡ d.cursor → KeepsFor described.next got ready.pin new pin → IsHeld left (holder new pin) → IsMade before new left place d described
+    made_as : (pin : Option Pin) → described ≡ page (image_below place got.seen.list) d → IsTrue (is_kept_in got.seen.list place) → cursor ≡ d.cursor → KeepsFor described.next got ready.pin new pin → IsPinPlace left (holder new pin) → IsPageMade before new left place d described
     made_as pin shown kept asked ends is_held = record {
       pin = pin;
       paged = record {
@@ -184,10 +184,10 @@ module _ (cursor : Option LineKey) (before : Holder) (old got : Client) (place :
       is_held = is_held;
     }
 
-    pub made : described ≡ page (image_below place got.seen.list) d → IsTrue (is_kept_in got.seen.list place) → cursor ≡ d.cursor → Finished (is_some described.next) (Some place) got new left (Ok tt) → IsMade before new left place d described
+    pub made : described ≡ page (image_below place got.seen.list) d → IsTrue (is_kept_in got.seen.list place) → cursor ≡ d.cursor → Finished (is_some described.next) (Some place) got new left (Ok tt) → IsPageMade before new left place d described
     made shown kept asked f = by_next described.next refl
       where
-        by_next : (o : Option LineKey) → described.next ≡ o → IsMade before new left place d described
+        by_next : (o : Option LineKey) → described.next ≡ o → IsPageMade before new left place d described
         by_next None is =
             let g : Finished false (Some place) got new left (Ok tt) = subst (λ (o : Option LineKey). Finished (is_some o) (Some place) got new left (Ok tt)) is f in
             let gave : Unpins got new ready.pin.place (Ok tt) = subst (λ (i : ℤ). Unpins got new i (Ok tt)) ready.at g.0 in

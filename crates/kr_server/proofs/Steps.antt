@@ -19,7 +19,7 @@ use Rattle.kr_server.specs.SeatCalls.{for_ask, Holder, IsWithoutMemory, PushesWr
 use Rattle.kr_server.specs.Served.{Connection, EndsBehind, IsWithoutAnswer, IsWithoutCopy, Served, WroteReplies, WroteRepliesUpTo, connection}
 use Rattle.kr_server.specs.inner.Reading.{IsUnread, TookPiece}
 use Rattle.kr_server.specs.inner.Serving.{IsAnsweredBy, IsAnsweredInPart, IsNotAnswered, IsNotExchanged, IsSilent, ServedSoFar}
-use Rattle.kr_server.specs.inner.Paging.{IsHeld}
+use Rattle.kr_server.specs.inner.Paging.{IsPinPlace}
 use Rattle.kr_server.proofs.Lists.{each_both, each_one, tells_more, tells_none, tells_same}
 use Rattle.kr_server.proofs.Replies.{wrote_in_part, wrote_more, wrote_none, wrote_same}
 use Rattle.kr_server.proofs.Writes.{asks_without_page, exchanged_more, exchanged_none, pushes_no_more, pushes_refused, pushes_those, pushes_unread, pushes_without_memory}

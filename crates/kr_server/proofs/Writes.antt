@@ -22,7 +22,7 @@ use Rattle.kr_server.specs.declared.end.ServeEnd.TheVariants as ends
 use Rattle.kr_server.specs.declared.exchange.Exchange.{Exchange}
 use Rattle.kr_server.specs.declared.exchange.Exchange.TheVariants as exchanges
 use Rattle.kr_server.specs.PagingCalls.{IsPageEnd}
-use Rattle.kr_server.specs.SeatCalls.{AreExchanged, AsksForPages, Holder, IsExchanged, IsRefusedPage, IsRefusedRead, IsRefusedWrite, IsWithoutMemory, for_ask, for_exchange, for_page, for_read, for_write, PushesWrites, Submits, holder, is_write, one_more, pushed_write, pushed_writes, those, writes_in}
+use Rattle.kr_server.specs.SeatCalls.{AreExchanged, AsksForPages, Holder, IsExchanged, IsRefusedPage, IsRefusedRead, IsRefusedWrite, IsWithoutMemory, for_ask, for_exchange, for_page, for_read, for_write, PushesWrites, Submits, holder, is_write, one_more, pushed_write, pushed_writes, those, writes_among}
 use Rattle.kr_server.proofs.PageCalls.{asks_for_page, asks_more, asks_nothing, asks_page_end}
 
 -- ---- one exchange
@@ -36,21 +36,21 @@ write_is old new a s =
     ∙ ap (λ (z : ℤ). jobs.Write a.seat a.ticket z a.call) (sym is.of_floor))
 
 -- a write more
-with_write : (xs : List Job) (old : Client) (ticket : ℕ) (call : Call) → writes_in (xs ++ job_of_call old ticket call ∷ []) ≡ writes_in xs ++ job_of_call old ticket call ∷ []
+with_write : (xs : List Job) (old : Client) (ticket : ℕ) (call : Call) → writes_among (xs ++ job_of_call old ticket call ∷ []) ≡ writes_among xs ++ job_of_call old ticket call ∷ []
 with_write xs old ticket call = filter-append is_write xs (job_of_call old ticket call ∷ [])
 
 same_seat : (old new : Holder) → new ≡ old → AsksForPages old.seat new.seat
 same_seat old new same = subst (λ (h : Holder). AsksForPages old.seat h.seat) (sym same) (asks_nothing old.seat)
 
 -- the writes that the exchange pushed
-pub pushed_by : (old new : Holder) (x : Exchange) → IsExchanged old new x → writes_in new.seat.pushed ≡ writes_in old.seat.pushed ++ pushed_write x
+pub pushed_by : (old new : Holder) (x : Exchange) → IsExchanged old new x → writes_among new.seat.pushed ≡ writes_among old.seat.pushed ++ pushed_write x
 pushed_by old new (exchanges.Write a) s =
-    ap writes_in s.0.pushed ∙ with_write old.seat.pushed old.seat new.seat.ticket a.call
-    ∙ ap (λ (j : Job). writes_in old.seat.pushed ++ j ∷ []) (write_is old.seat new.seat a s.0)
-pushed_by old new (exchanges.Read call reply) q = ap (λ (c : Client). writes_in c.pushed) q.0.same ∙ sym (append-nil (writes_in old.seat.pushed))
+    ap writes_among s.0.pushed ∙ with_write old.seat.pushed old.seat new.seat.ticket a.call
+    ∙ ap (λ (j : Job). writes_among old.seat.pushed ++ j ∷ []) (write_is old.seat new.seat a s.0)
+pushed_by old new (exchanges.Read call reply) q = ap (λ (c : Client). writes_among c.pushed) q.0.same ∙ sym (append-nil (writes_among old.seat.pushed))
 pushed_by old new (exchanges.Page correlation place describe described) p =
-    (asks_for_page old.seat new.seat old.pin new.pin place describe described p).writes ∙ sym (append-nil (writes_in old.seat.pushed))
-pushed_by old new (exchanges.Bare correlation error) same = (same_seat old new same).writes ∙ sym (append-nil (writes_in old.seat.pushed))
+    (asks_for_page old.seat new.seat old.pin new.pin place describe described p).writes ∙ sym (append-nil (writes_among old.seat.pushed))
+pushed_by old new (exchanges.Bare correlation error) same = (same_seat old new same).writes ∙ sym (append-nil (writes_among old.seat.pushed))
 
 pub onward_by : (old new : Holder) (x : Exchange) → IsExchanged old new x → Onward old.seat.seen new.seat.seen
 onward_by old new (exchanges.Write a) s = s.0.onward
@@ -73,10 +73,10 @@ pub exchanged_more : (old mid new : Holder) (xs : List Exchange) (x : Exchange) 
 exchanged_more old mid new [] x none one = (new, subst (λ (h : Holder). IsExchanged h new x) none one, refl)
 exchanged_more old mid new (y ∷ xs) x all one = (all.0, all.1, exchanged_more all.0 mid new xs x all.2 one)
 
-pub pushed_all : (old mid : Holder) (xs : List Exchange) → AreExchanged old xs mid → writes_in mid.seat.pushed ≡ writes_in old.seat.pushed ++ pushed_writes xs
-pushed_all old mid [] none = (same_seat old mid none).writes ∙ sym (append-nil (writes_in old.seat.pushed))
+pub pushed_all : (old mid : Holder) (xs : List Exchange) → AreExchanged old xs mid → writes_among mid.seat.pushed ≡ writes_among old.seat.pushed ++ pushed_writes xs
+pushed_all old mid [] none = (same_seat old mid none).writes ∙ sym (append-nil (writes_among old.seat.pushed))
 pushed_all old mid (x ∷ xs) all =
-    pushed_all all.0 mid xs all.2 ∙ (ap (λ (l : List Job). l ++ pushed_writes xs) (pushed_by old all.0 x all.1) ∙ append_assoc (writes_in old.seat.pushed) (pushed_write x) (pushed_writes xs))
+    pushed_all all.0 mid xs all.2 ∙ (ap (λ (l : List Job). l ++ pushed_writes xs) (pushed_by old all.0 x all.1) ∙ append_assoc (writes_among old.seat.pushed) (pushed_write x) (pushed_writes xs))
 
 pub onward_all : (old mid : Holder) (xs : List Exchange) → AreExchanged old xs mid → Onward old.seat.seen mid.seat.seen
 onward_all old mid [] none = (same_seat old mid none).onward
@@ -105,24 +105,24 @@ module _ (old mid : Holder) (new : Client) (xs : List Exchange) (all : AreExchan
   pushes_no_more asks = those (asks.writes ∙ pushed_all old mid xs all)
 
   pub pushes_those : new ≡ mid.seat → PushesWrites old.seat mid.seat new (pushed_writes xs)
-  pushes_those same = those (ap (λ (c : Client). writes_in c.pushed) same ∙ pushed_all old mid xs all)
+  pushes_those same = those (ap (λ (c : Client). writes_among c.pushed) same ∙ pushed_all old mid xs all)
 
   pushes_one : (ticket : ℕ) (call : Call) → new.pushed ≡ mid.seat.pushed ++ job_of_call mid.seat ticket call ∷ [] → PushesWrites old.seat mid.seat new (pushed_writes xs)
   pushes_one ticket call one =
-      one_more ticket call (ap writes_in one ∙ with_write mid.seat.pushed mid.seat ticket call ∙ ap (λ (l : List Job). l ++ job_of_call mid.seat ticket call ∷ []) (pushed_all old mid xs all))
+      one_more ticket call (ap writes_among one ∙ with_write mid.seat.pushed mid.seat ticket call ∙ ap (λ (l : List Job). l ++ job_of_call mid.seat ticket call ∷ []) (pushed_all old mid xs all))
 
   pub pushes_refused : (fault : SubmitFault) (message : List ℕ) → IsRefusedWrite mid.seat new fault message → PushesWrites old.seat mid.seat new (pushed_writes xs)
   pushes_refused fault message r = elim (pushed_at_fault mid.seat new r.call fault r.told.pushed) [
-    | inl none ↦ those (ap writes_in none ∙ pushed_all old mid xs all)
+    | inl none ↦ those (ap writes_among none ∙ pushed_all old mid xs all)
     | inr one ↦ pushes_one new.ticket r.call one
   ]
 
   pub pushes_unread : (fault : CopyFault) (message : List ℕ) → IsRefusedRead mid.seat new fault message → PushesWrites old.seat mid.seat new (pushed_writes xs)
-  pushes_unread fault message r = those (ap (λ (c : Client). writes_in c.pushed) r.told.same ∙ pushed_all old mid xs all)
+  pushes_unread fault message r = those (ap (λ (c : Client). writes_among c.pushed) r.told.same ∙ pushed_all old mid xs all)
 
   pushes_exchange : (x : Exchange) (left : Option Pin) → IsExchanged mid (holder new left) x → PushesWrites old.seat mid.seat new (pushed_writes xs)
   pushes_exchange (exchanges.Write a) left s = pushes_one new.ticket a.call s.0.pushed
-  pushes_exchange (exchanges.Read call reply) left q = those (ap (λ (c : Client). writes_in c.pushed) q.0.same ∙ pushed_all old mid xs all)
+  pushes_exchange (exchanges.Read call reply) left q = those (ap (λ (c : Client). writes_among c.pushed) q.0.same ∙ pushed_all old mid xs all)
   pushes_exchange (exchanges.Page correlation place describe described) left p = pushes_no_more (asks_for_page mid.seat new mid.pin left place describe described p)
   pushes_exchange (exchanges.Bare correlation error) left same = pushes_no_more (same_seat mid (holder new left) same)
 

@@ -90,7 +90,7 @@ KeepsFor (Some next) old held new pin = (new ≡ old) × (pin ≡ Some held)
 KeepsFor None old held new pin = GivesBack old new held × (pin ≡ None)
 
 -- The page is that of the image at the pin's place, in the list that the seat then had.
-pub record IsPaged (old : Client) (held : Option Pin) (new : Client) (left : Option Pin) (place : ℤ) (describe : Describe) (described : Described) : Type 0 where
+pub record IsPageExchange (old : Client) (held : Option Pin) (new : Client) (left : Option Pin) (place : ℤ) (describe : Describe) (described : Described) : Type 0 where
   pub first : Client
   pub own : Pin
   pub begins : HoldsFor describe.cursor held old first own

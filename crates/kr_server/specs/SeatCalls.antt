@@ -27,7 +27,7 @@ use Rattle.kr_server.specs.declared.end.ServeEnd.TheVariants as ends
 use Rattle.kr_server.specs.declared.exchange.Exchange.{Exchange}
 use Rattle.kr_server.specs.declared.exchange.Exchange.TheVariants as exchanges
 use Rattle.kr_server.specs.Exchanges.{IsAskedFor}
-use Rattle.kr_server.specs.PagingCalls.{IsPageEnd, IsPaged}
+use Rattle.kr_server.specs.PagingCalls.{IsPageEnd, IsPageExchange}
 
 -- what `submit` tells of a call and its result
 pub record Submits (old new : Client) (call : Call) (result : Result Answered SubmitFault) : Type 0 where
@@ -63,7 +63,7 @@ holder seat pin = record { seat = seat; pin = pin }
 abbrev pub IsExchanged : Holder → Holder → Exchange → Type 0
 IsExchanged old new (exchanges.Write a) = Submits old.seat new.seat a.call (Ok a) × (new.pin ≡ old.pin)
 IsExchanged old new (exchanges.Read call reply) = Queries old.seat new.seat call (Ok reply) × (new.pin ≡ old.pin)
-IsExchanged old new (exchanges.Page correlation place describe described) = IsPaged old.seat old.pin new.seat new.pin place describe described
+IsExchanged old new (exchanges.Page correlation place describe described) = IsPageExchange old.seat old.pin new.seat new.pin place describe described
 IsExchanged old new (exchanges.Bare correlation error) = new ≡ old
 
 -- one after the other, each where the one before it left the seat
@@ -80,14 +80,14 @@ is_write (jobs.Write seat ticket floor call) = true
 is_write (jobs.Pin seat ticket floor) = false
 is_write (jobs.Unpin seat ticket floor place) = false
 
-abbrev pub writes_in : List Job → List Job
-writes_in pushed = filter is_write pushed
+abbrev pub writes_among : List Job → List Job
+writes_among pushed = filter is_write pushed
 
 -- what any calls for pages leave: the list goes on, the count of misses may have risen, and no write was pushed
 pub record AsksForPages (old new : Client) : Type 0 where
   pub onward : Onward old.seen new.seen
   pub misses : MayRise old.misses new.misses
-  pub writes : writes_in new.pushed ≡ writes_in old.pushed
+  pub writes : writes_among new.pushed ≡ writes_among old.pushed
 
 -- the write of an exchange, with the seat, the ticket, the floor and the call of its answer
 abbrev pub pushed_write : Exchange → List Job
@@ -102,8 +102,8 @@ pushed_writes xs = flat_map pushed_write xs
 
 -- pins aside, the seat pushed these writes, and perhaps one more, when it was in this state
 pub data PushesWrites (old mid new : Client) (writes : List Job) : Type 0 where
-  those : writes_in new.pushed ≡ writes_in old.pushed ++ writes → PushesWrites old mid new writes
-  one_more : (ticket : ℕ) (call : Call) → writes_in new.pushed ≡ (writes_in old.pushed ++ writes) ++ job_of_call mid ticket call ∷ [] → PushesWrites old mid new writes
+  those : writes_among new.pushed ≡ writes_among old.pushed ++ writes → PushesWrites old mid new writes
+  one_more : (ticket : ℕ) (call : Call) → writes_among new.pushed ≡ (writes_among old.pushed ++ writes) ++ job_of_call mid ticket call ∷ [] → PushesWrites old mid new writes
 
 -- ---- messages without an exchange
 

@@ -12,7 +12,7 @@ ghost use Rattle.kr_view.specs.Seats.{Onward};
 ghost use Rattle.kr_model.specs.Outputs as outputs;
 ghost use Rattle.kr_server.specs.Exchanges.{IsAskedFor};
 ghost use Rattle.kr_server.specs.SeatCalls.{IsExchanged, holder};
-ghost use Rattle.kr_server.specs.inner.Paging.{HasRoom, IsHeld, KeepsPlaces};
+ghost use Rattle.kr_server.specs.inner.Paging.{HasPlaceLeft, IsPinPlace, KeepsPlaces};
 ghost use Rattle.kr_server.specs.inner.Serving.{CameOf, IsNotExchanged};
 
 use crate::describing::describe_page;
@@ -36,9 +36,10 @@ pub(crate) fn exchange<R: Wait>(
     paging: &mut Paging,
     message: &[u8],
 ) -> Result<Exchange, ServeEnd>
-    requires { HasRoom seat.old.held paging.old.held }
+    requires { HasPlaceLeft seat.old.held paging.old.held }
     ensures asked { IfOk result (λ x. IsAskedFor x message.now) }
-    ensures came { IfOk result (λ x. (pin : Option Pin) → IsHeld paging.old.held (holder seat.old pin)
+    ensures came { IfOk result (λ x. (pin : Option Pin)
+        → IsPinPlace paging.old.held (holder seat.old pin)
         → CameOf (holder seat.old pin) seat.new paging.new.held x) }
     ensures err { IfErr result (λ end. IsNotExchanged message.now seat.old seat.new end) }
     ensures places { KeepsPlaces seat.old paging.old.held seat.new paging.new.held }
@@ -71,10 +72,11 @@ fn exchange_page<R: Wait>(
     correlation: i32,
     describe: Describe,
 ) -> Result<Exchange, ServeEnd>
-    requires { HasRoom seat.old.held paging.old.held }
+    requires { HasPlaceLeft seat.old.held paging.old.held }
     ensures asked { (message : List ℕ) → IsDescribeAsk (describes.Ask correlation describe) message
         → IfOk result (λ x. IsAskedFor x message) }
-    ensures came { IfOk result (λ x. (pin : Option Pin) → IsHeld paging.old.held (holder seat.old pin)
+    ensures came { IfOk result (λ x. (pin : Option Pin)
+        → IsPinPlace paging.old.held (holder seat.old pin)
         → CameOf (holder seat.old pin) seat.new paging.new.held x) }
     ensures err { (message : List ℕ) → IsDescribeAsk (describes.Ask correlation describe) message
         → IfErr result (λ end. IsNotExchanged message seat.old seat.new end) }

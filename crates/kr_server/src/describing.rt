@@ -5,7 +5,7 @@ ghost use Rattle.std.specs.Option.{is_some};
 ghost use Rattle.kr_calls.specs.declared.pins.Pin.{Pin};
 ghost use Rattle.kr_pages.specs.declared.describe.LineKey.{LineKey};
 ghost use Rattle.kr_server.specs.SeatCalls.{AsksForPages, Holder, holder};
-ghost use Rattle.kr_server.specs.inner.Paging.{Begun, Finished, HasRoom, IsHeld, IsMade, IsNoPage, IsReady, KeepsPlaces, PageRead, TriedOnce, fault_end};
+ghost use Rattle.kr_server.specs.inner.Paging.{Begun, Finished, HasPlaceLeft, IsPinPlace, IsPageMade, IsNoPage, IsReadyFor, KeepsPlaces, PageRead, TriedOnce, fault_end};
 
 use crate::end::{ServeEnd, refusal_end};
 use crate::paging::Paging;
@@ -57,9 +57,9 @@ fn begin<R: Wait>(
     paging: &mut Paging,
     goes_on: bool,
 ) -> Result<i64, SubmitFault>
-    requires { HasRoom seat.old.held paging.old.held }
+    requires { HasPlaceLeft seat.old.held paging.old.held }
     ensures begun { (cursor : Option LineKey) (pin : Option Pin) → goes_on ≡ is_some cursor
-        → IsHeld paging.old.held (holder seat.old pin)
+        → IsPinPlace paging.old.held (holder seat.old pin)
         → Begun cursor (holder seat.old pin) seat.new result }
     ensures left { IfOk result (λ place. paging.new.held ≡ Some place) }
     ensures asks { OnOk result (AsksForPages seat.old seat.new) }
@@ -96,9 +96,11 @@ fn describe_once<R: Wait>(
     describe: &Describe,
 ) -> Result<Tried, ServeEnd>
     requires held { paging.old.held ≡ Some place }
-    requires room { HasRoom seat.old.held paging.old.held }
-    ensures tried { IfOk result (λ tried. (old : Holder) → IsReady describe.now.cursor old seat.old
-        place → TriedOnce old seat.new paging.new.held place describe.now tried) }
+    requires room { HasPlaceLeft seat.old.held paging.old.held }
+    ensures tried { IfOk result (λ tried. (old : Holder)
+        → IsReadyFor describe.now.cursor old seat.old place
+        → TriedOnce old seat.new paging.new.held place
+        describe.now tried) }
     ensures none { IfErr result (λ end. IsNoPage seat.old seat.new end) }
     ensures asks { OnOk result (AsksForPages seat.old seat.new) }
     ensures places { KeepsPlaces seat.old paging.old.held seat.new paging.new.held }
@@ -128,9 +130,10 @@ pub(crate) fn describe_page<R: Wait>(
     paging: &mut Paging,
     describe: &Describe,
 ) -> Result<(i64, Described), ServeEnd>
-    requires { HasRoom seat.old.held paging.old.held }
-    ensures made { IfOk result (λ x. (pin : Option Pin) → IsHeld paging.old.held (holder seat.old pin)
-        → IsMade (holder seat.old pin) seat.new paging.new.held x.0 describe.now x.1) }
+    requires { HasPlaceLeft seat.old.held paging.old.held }
+    ensures made { IfOk result (λ x. (pin : Option Pin)
+        → IsPinPlace paging.old.held (holder seat.old pin)
+        → IsPageMade (holder seat.old pin) seat.new paging.new.held x.0 describe.now x.1) }
     ensures none { IfErr result (λ end. IsNoPage seat.old seat.new end) }
     ensures places { KeepsPlaces seat.old paging.old.held seat.new paging.new.held }
 {

@@ -4,7 +4,7 @@ ghost use Rattle.std.specs.Prelude.{◌≡◌, ◌<◌, length, None, IfErr, IfO
 ghost use Rattle.kr_shared.specs.declared.places.TheConstants.{MOST_PLACES};
 ghost use Rattle.kr_shared.specs.Grants.{pin_at};
 ghost use Rattle.kr_server.specs.PagingCalls.{IsPlaceRefused, PinsOne, Unpins};
-ghost use Rattle.kr_server.specs.inner.Paging.{GaveBack, HasRoom, KeepsPlaces, Renewed, TookOne};
+ghost use Rattle.kr_server.specs.inner.Paging.{GaveBack, HasPlaceLeft, KeepsPlaces, Renewed, TookOne};
 
 use kr_shared::{ClientSeat, PinFault, SubmitFault};
 use std::sync::Wait;
@@ -63,7 +63,7 @@ impl Paging {
     #[tactic(auto, using(crate::proofs::HeldPlaces::places))]
     fn take<R: Wait>(&mut self, rt: &R, seat: &mut ClientSeat) -> Result<i64, SubmitFault>
         requires none { self.old.held ≡ None }
-        requires room { HasRoom seat.old.held self.old.held }
+        requires room { HasPlaceLeft seat.old.held self.old.held }
         ensures took { TookOne seat.old seat.new self.new.held result }
         ensures places { KeepsPlaces seat.old self.old.held seat.new self.new.held }
     {
@@ -75,7 +75,7 @@ impl Paging {
     /// Holds the committed end, once the place that is held is given back.
     #[tactic(auto, using(crate::proofs::HeldPlaces::places))]
     pub fn renew<R: Wait>(&mut self, rt: &R, seat: &mut ClientSeat) -> Result<i64, SubmitFault>
-        requires { HasRoom seat.old.held self.old.held }
+        requires { HasPlaceLeft seat.old.held self.old.held }
         ensures renewed { Renewed self.old.held seat.old seat.new self.new.held result }
         ensures places { KeepsPlaces seat.old self.old.held seat.new self.new.held }
     {

@@ -6,7 +6,7 @@ ghost use Rattle.kr_defs.specs.declared.limits.TheConstants.{MOST_SESSION_BYTES}
 ghost use Rattle.kr_view.specs.Seats.{Onward};
 ghost use Rattle.kr_shared.specs.declared.places.TheConstants.{MOST_PLACES};
 ghost use Rattle.kr_server.specs.Served.{LeavesNone, ServesClient, ServesMessages, ServesToEnd, ServesUpToBreak, WhereNoneRose};
-ghost use Rattle.kr_server.specs.inner.Paging.{HasRoom, KeepsPlaces};
+ghost use Rattle.kr_server.specs.inner.Paging.{HasPlaceLeft, KeepsPlaces};
 ghost use Rattle.kr_server.specs.inner.Serving.{AnswersOne, ServesNext};
 
 use crate::calls::exchange;
@@ -30,7 +30,7 @@ fn answer_message<R: Wait, K: Sink, T: Transcript>(
     sink: &mut K,
     transcript: &mut T,
 ) -> Result<(), ServeEnd>
-    requires { HasRoom seat.old.held paging.old.held }
+    requires { HasPlaceLeft seat.old.held paging.old.held }
     ensures answered { AnswersOne K.written T.list message.now sink.old sink.new transcript.old
         transcript.new seat.old seat.new paging.old.held paging.new.held result }
     ensures places { KeepsPlaces seat.old paging.old.held seat.new paging.new.held }
@@ -69,7 +69,7 @@ fn serve_message<R: Wait, S: Source, K: Sink, T: Transcript>(
     at: u64,
 ) -> Result<u64, ServeEnd>
     requires within { at ≤ MOST_SESSION_BYTES }
-    requires room { HasRoom seat.old.held paging.old.held }
+    requires room { HasPlaceLeft seat.old.held paging.old.held }
     ensures goes { ServesNext S.left K.written T.list source.old source.new
         sink.old sink.new transcript.old transcript.new seat.old seat.new
         paging.old.held paging.new.held at result }
@@ -105,7 +105,7 @@ fn serve_messages<R: Wait, S: Source, K: Sink, T: Transcript>(
     transcript: &mut T,
 ) -> ServeEnd
     requires none { paging.old.held ≡ None }
-    requires room { HasRoom seat.old.held paging.old.held }
+    requires room { HasPlaceLeft seat.old.held paging.old.held }
     ensures served { ServesToEnd S.left K.written T.list source.old source.new
         sink.old sink.new transcript.old transcript.new seat.old seat.new result }
     ensures places { KeepsPlaces seat.old paging.old.held seat.new paging.new.held }

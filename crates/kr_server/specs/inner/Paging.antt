@@ -21,18 +21,18 @@ use Rattle.kr_server.specs.declared.describing.Tried.{Tried}
 use Rattle.kr_server.specs.declared.describing.Tried.TheVariants as trials
 use Rattle.kr_server.specs.declared.end.ServeEnd.{ServeEnd}
 use Rattle.kr_server.specs.declared.end.ServeEnd.TheVariants as ends
-use Rattle.kr_server.specs.PagingCalls.{HoldsFor, HoldsOn, IsPageEnd, IsPaged, IsPlaceRefused, PinsOne, ReadsRecords, Unpins}
+use Rattle.kr_server.specs.PagingCalls.{HoldsFor, HoldsOn, IsPageEnd, IsPageExchange, IsPlaceRefused, PinsOne, ReadsRecords, Unpins}
 use Rattle.kr_server.specs.SeatCalls.{AsksForPages, Holder, holder}
 
 -- it is that of the pin, and kept from the pin on
-pub record IsHeld (held : Option ℤ) (h : Holder) : Type 0 where
+pub record IsPinPlace (held : Option ℤ) (h : Holder) : Type 0 where
   pub is : held ≡ option_map (λ (p : Pin). p.place) h.pin
   pub kept : IfSome h.pin (λ pin. IsKeptFrom h.seat.seen.list pin)
 
 -- one place more may be held where none is for a walk
-abbrev pub HasRoom : List ℤ → Option ℤ → Type 0
-HasRoom all None = length all < MOST_PLACES
-HasRoom all (Some held) = (length all ≤ MOST_PLACES) × IsTrue (list_any (λ p. int_eq p held) all)
+abbrev pub HasPlaceLeft : List ℤ → Option ℤ → Type 0
+HasPlaceLeft all None = length all < MOST_PLACES
+HasPlaceLeft all (Some held) = (length all ≤ MOST_PLACES) × IsTrue (list_any (λ p. int_eq p held) all)
 
 -- no other place is held
 abbrev pub HoldsAlone : List ℤ → Option ℤ → Type 0
@@ -41,11 +41,11 @@ HoldsAlone all (Some held) = all ≡ held ∷ []
 
 -- what stays so over a seat's calls
 pub record KeepsPlaces (old : Client) (held : Option ℤ) (new : Client) (left : Option ℤ) : Type 0 where
-  pub room : HasRoom old.held held → HasRoom new.held left
+  pub room : HasPlaceLeft old.held held → HasPlaceLeft new.held left
   pub alone : HoldsAlone old.held held → HoldsAlone new.held left
 
 -- the place for a page: of the pin that was held, or of another
-pub record IsReady (cursor : Option LineKey) (old : Holder) (seat : Client) (place : ℤ) : Type 0 where
+pub record IsReadyFor (cursor : Option LineKey) (old : Holder) (seat : Client) (place : ℤ) : Type 0 where
   pub first : Client
   pub own : Pin
   pub begins : HoldsFor cursor old.pin old.seat first own
@@ -56,10 +56,10 @@ pub record IsReady (cursor : Option LineKey) (old : Holder) (seat : Client) (pla
   pub kept : IsKeptFrom seat.seen.list pin
 
 -- the page is made, and the place is held on or given back
-pub record IsMade (old : Holder) (seat : Client) (left : Option ℤ) (place : ℤ) (describe : Describe) (described : Described) : Type 0 where
+pub record IsPageMade (old : Holder) (seat : Client) (left : Option ℤ) (place : ℤ) (describe : Describe) (described : Described) : Type 0 where
   pub pin : Option Pin
-  pub paged : IsPaged old.seat old.pin seat pin place describe described
-  pub is_held : IsHeld left (holder seat pin)
+  pub paged : IsPageExchange old.seat old.pin seat pin place describe described
+  pub is_held : IsPinPlace left (holder seat pin)
 
 -- ---- calls
 
@@ -107,13 +107,13 @@ pub record IsNoPage (old new : Client) (end : ServeEnd) : Type 0 where
 
 -- the place for a page is there, or calls for it ended
 abbrev pub Begun : Option LineKey → Holder → Client → Result ℤ SubmitFault → Type 0
-Begun cursor old seat (Ok place) = IsReady cursor old seat place
+Begun cursor old seat (Ok place) = IsReadyFor cursor old seat place
 Begun cursor old seat (Err fault) = IsPlaceEnd old.seat seat fault
 
 -- the page is made at the place, or another place is there for it, or calls ended
 abbrev pub TriedOnce : Holder → Client → Option ℤ → ℤ → Describe → Tried → Type 0
-TriedOnce old seat left place describe (trials.Page described) = IsMade old seat left place describe described
-TriedOnce old seat left place describe (trials.Lost next) = IsReady describe.cursor old seat next × (left ≡ Some next)
+TriedOnce old seat left place describe (trials.Page described) = IsPageMade old seat left place describe described
+TriedOnce old seat left place describe (trials.Lost next) = IsReadyFor describe.cursor old seat next × (left ≡ Some next)
 
 -- what a read of a page leaves
 pub record PageRead (old new : Client) (place : ℤ) (describe : Describe) (result : Result Described PageFault) : Type 0 where

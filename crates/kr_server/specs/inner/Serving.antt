@@ -16,7 +16,7 @@ use Rattle.kr_server.specs.Exchanges.{IsAskedFor, IsMessageOf, SizedReplyFits, s
 use Rattle.kr_server.specs.SeatCalls.{AreExchanged, Holder, IsExchanged, IsRefusedWrite, IsWithoutMemory, holder}
 use Rattle.kr_server.specs.Served.{Connection, IsWithoutAnswer, IsWithoutCopy, Served, WroteReplies, connection}
 use Rattle.kr_server.specs.Told.{TellsMore}
-use Rattle.kr_server.specs.inner.Paging.{IsHeld}
+use Rattle.kr_server.specs.inner.Paging.{IsPinPlace}
 
 -- ---- messages
 
@@ -29,7 +29,7 @@ pub record ServedSoFar (before now : Connection) (held : Option ℤ) (at : ℕ) 
   pub took : Consumes before.left now.left front
   pub place : at ≡ length front
   pub exchanged : AreExchanged (holder before.seat None) xs (holder now.seat pin)
-  pub is_held : IsHeld held (holder now.seat pin)
+  pub is_held : IsPinPlace held (holder now.seat pin)
   pub wrote : WroteReplies before.written now.written xs
   pub tells : TellsMore before.told now.told xs
 
@@ -52,7 +52,7 @@ pub record IsAnsweredBy (message : List ℕ) (old new : Connection) (pin : Optio
   pub left : Option Pin
   pub asked : IsAskedFor x message
   pub exchanged : IsExchanged (holder old.seat pin) (holder new.seat left) x
-  pub is_held : IsHeld held (holder new.seat left)
+  pub is_held : IsPinPlace held (holder new.seat left)
   pub fits : SizedReplyFits x
   pub wrote : Appends old.written new.written (sized_reply x)
   pub tells : TellsMore old.told new.told (x ∷ [])
@@ -71,7 +71,7 @@ pub record IsAnsweredInPart (message : List ℕ) (old new : Connection) (pin : O
 pub record CameOf (old : Holder) (new : Client) (held : Option ℤ) (x : Exchange) : Type 0 where
   pub left : Option Pin
   pub exchanged : IsExchanged old (holder new left) x
-  pub is_held : IsHeld held (holder new left)
+  pub is_held : IsPinPlace held (holder new left)
 
 -- why it has no exchange
 abbrev pub IsNotExchanged : List ℕ → Client → Client → ServeEnd → Type 0
@@ -96,7 +96,7 @@ IsNotAnswered message old new pin other = IsSilent old new × IsNotExchanged mes
 -- it is answered, or not
 abbrev pub AnswersMessage : List ℕ → Connection → Connection → Option ℤ → Option ℤ → Result (Unit {0}) ServeEnd → Type 0
 AnswersMessage message before after held held' result =
-    (pin : Option Pin) → IsHeld held (holder before.seat pin)
+    (pin : Option Pin) → IsPinPlace held (holder before.seat pin)
     → MatchResult result (λ _. IsAnsweredBy message before after pin held') (λ end. IsNotAnswered message before after pin end)
 
 -- the same of a seat, a sink and a transcript, by what they tell, whatever is left to read
