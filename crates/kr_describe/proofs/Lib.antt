@@ -1,6 +1,7 @@
 pub mod Going
 pub mod LineSteps
 pub mod LookedUp
+pub mod MadePages
 pub mod NamedLines
 pub mod NamesInOrder
 pub mod PutTogether

@@ -1,5 +1,5 @@
 -- Entries are added line by line, of an image that several calls see.
-use Rattle.std.proofs.Common.{◌≡◌, ◌∙◌, ℕ, zero, suc, ◌+◌, ◌≤◌, ◌<◌, ◌-◌, ℤ, pos, negsuc, Bool, true, false, cond, List, [], ◌∷◌, ◌++◌, length, length-append, map, take, refl, sym, ap, subst, arith}
+use Rattle.std.proofs.Common.{◌≡◌, ◌∙◌, ℕ, ◌+◌, ◌≤◌, ◌<◌, ◌-◌, ℤ, pos, negsuc, Bool, true, false, cond, List, [], ◌∷◌, ◌++◌, length, length-append, take, refl, sym, ap, subst, arith}
 use Rattle.std.specs.Prelude.{◌-ℤ◌, Option, Some, None, ◌&&◌, flat_map, int_lt, nat_eq, nat_le, slice_get}
 use Rattle.std.specs.Option.{option_map}
 use Rattle.std.proofs.lemmas.Bool.Decides.{nat_tests}
@@ -16,7 +16,7 @@ use Rattle.kr_pages.specs.declared.describe.DescribedPart.{DescribedPart}
 use Rattle.kr_pages.specs.declared.describe.DescribedTopic.{DescribedTopic}
 use Rattle.kr_pages.specs.Lines.{name_lines}
 use Rattle.kr_pages.specs.Pages.{part_of}
-use Rattle.kr_describe.specs.ShownLines.{bare_entry, entries_of, index_before, name_entries, part_entries, part_entry, topics_entries}
+use Rattle.kr_describe.specs.ShownLines.{bare_entry, line_entries, index_before, name_entries, part_entries, part_entry, topics_entries}
 use Rattle.kr_describe.proofs.ShownParts.{indexed, known_high, known_low, name_passes, no_part_left, or_bare, part_left, unknown_high, unknown_low}
 
 abbrev Entry : Type 0
@@ -46,14 +46,14 @@ module _ (image : Image) (valid : IsValid image) (most : ℕ) (old : List Descri
         → IsFilling most old (part_entries image name id first) new (part_entries image name id index)
     part_pushed new free index state is later as_later part made entry shown pushed =
         one_more most old (part_entries image name id first) rows (part_entries image name id last) f new (part_entries image name id index) (part_entry name id (part_of image index state))
-          (pushed ∙ ap (λ (e : DescribedTopic). rows ++ e ∷ []) (shown ∙ ap (part_entry name id) (made ∙ ap (λ (i : Image). part_of i index state) as_later)))
-          (part_left image valid name id last index state (subst (λ (i : Image). Some (index, state) ≡ option_map indexed (slice_get (rest_of_topic (id, last) i.partitions) 0)) same is))
-          free
+        (pushed ∙ ap (λ (e : DescribedTopic). rows ++ e ∷ []) (shown ∙ ap (part_entry name id) (made ∙ ap (λ (i : Image). part_of i index state) as_later)))
+        (part_left image valid name id last index state (subst (λ (i : Image). Some (index, state) ≡ option_map indexed (slice_get (rest_of_topic (id, last) i.partitions) 0)) same is))
+        free
 
     pub parts_ended : None ≡ option_map indexed (slice_get (rest_of_topic (id, last) there.partitions) 0) → rows ≡ take most (old ++ part_entries image name id first)
     parts_ended none =
         none_left most old (part_entries image name id first) rows (part_entries image name id last) f
-          (no_part_left image valid name id last (subst (λ (i : Image). None ≡ option_map indexed (slice_get (rest_of_topic (id, last) i.partitions) 0)) same none))
+        (no_part_left image valid name id last (subst (λ (i : Image). None ≡ option_map indexed (slice_get (rest_of_topic (id, last) i.partitions) 0)) same none))
 
   -- ---- the topics
 
@@ -84,14 +84,14 @@ module _ (image : Image) (valid : IsValid image) (most : ℕ) (old : List Descri
     pub topic_added : (name : List ℕ) → Found name there → (later : Image) → later ≡ image → (new : List DescribedTopic) → new ≡ take most (rows ++ name_entries later name (negsuc 0)) → IsFilling most old (topics_entries image first) new (topics_entries image name)
     topic_added name is later as_later new added =
         let left = topics_left name is in
-        some_more most old (topics_entries image first) rows (topics_entries image last) f new (topics_entries image name) (entries_of image (name_lines image name))
-          (added ∙ ap (λ (i : Image). take most (rows ++ name_entries i name (negsuc 0))) as_later ∙ ap (λ ls. take most (rows ++ entries_of image ls)) (name_passes image valid name (negsuc 0) refl))
-          (ap (flat_map (λ (e : List ℕ × ℕ). entries_of image (name_lines image e.0))) left.1 ∙ ap (λ (n : List ℕ). entries_of image (name_lines image n) ++ topics_entries image n) left.2)
+        some_more most old (topics_entries image first) rows (topics_entries image last) f new (topics_entries image name) (line_entries image (name_lines image name))
+        (added ∙ ap (λ (i : Image). take most (rows ++ name_entries i name (negsuc 0))) as_later ∙ ap (λ ls. take most (rows ++ line_entries image ls)) (name_passes image valid name (negsuc 0) refl))
+        (ap (flat_map (λ (e : List ℕ × ℕ). line_entries image (name_lines image e.0))) left.1 ∙ ap (λ (n : List ℕ). line_entries image (name_lines image n) ++ topics_entries image n) left.2)
 
     pub topics_ended : None ≡ option_map (λ (e : List ℕ × ℕ). e.0) (slice_get (above text_order there.topics (Some last)) 0) → rows ≡ take most (old ++ topics_entries image first)
     topics_ended none =
         none_left most old (topics_entries image first) rows (topics_entries image last) f
-          (ap (flat_map (λ (e : List ℕ × ℕ). entries_of image (name_lines image e.0))) (walk_end (above text_order image.topics (Some last)) (no_topic (slice_get (above text_order image.topics (Some last)) 0) (subst (λ (i : Image). None ≡ option_map (λ (e : List ℕ × ℕ). e.0) (slice_get (above text_order i.topics (Some last)) 0)) same none))))
+        (ap (flat_map (λ (e : List ℕ × ℕ). line_entries image (name_lines image e.0))) (walk_end (above text_order image.topics (Some last)) (no_topic (slice_get (above text_order image.topics (Some last)) 0) (subst (λ (i : Image). None ≡ option_map (λ (e : List ℕ × ℕ). e.0) (slice_get (above text_order i.topics (Some last)) 0)) same none))))
 
   -- ---- the lines of a name from an index on
 
@@ -148,8 +148,8 @@ module _ (image : Image) (valid : IsValid image) (most : ℕ) (old : List Descri
             let none = nothing_added (part_entries image name id (negsuc 0)) mid from_all free long in
             let stays : mid ≡ old = from_all ∙ sym (none_added most old (part_entries image name id (negsuc 0)) few none) in
             one_added most old new (name_entries image name index) (bare_entry name (Some id)) free
-              (known_low image valid name index low id named ∙ ap (or_bare image valid name index id) none)
-              (pushed ∙ ap (λ (es : List DescribedTopic). es ++ entry ∷ []) stays ∙ ap (λ (e : DescribedTopic). old ++ e ∷ []) made)
+            (known_low image valid name index low id named ∙ ap (or_bare image valid name index id) none)
+            (pushed ∙ ap (λ (es : List DescribedTopic). es ++ entry ∷ []) stays ∙ ap (λ (e : DescribedTopic). old ++ e ∷ []) made)
 
       pub known_done : nat_le most (length old) ≡ false → (b : Bool) → b ≡ (int_lt index (pos 0) && nat_eq (length mid) (length old)) → (new : List DescribedTopic)
           → (b ≡ true → new ≡ mid ++ bare_entry name (Some id) ∷ []) → (b ≡ false → new ≡ mid) → new ≡ take most (old ++ name_entries image name index)

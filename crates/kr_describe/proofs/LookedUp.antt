@@ -1,12 +1,10 @@
 -- What single records tell of an image.
 use Rattle.std.proofs.Common.{◌+◌, append_assoc, drop, get_or, ◌≡◌, ◌∙◌, ℕ, ℤ, Bool, true, false, cond, List, [], ◌∷◌, ◌++◌, filter, length, length-append, map, take, refl, sym, ap, arith, ◌<◌, ◌≤◌}
-use Rattle.std.specs.Prelude.{◌&&◌, ◌==◌, ◌↔◌, IsSome, option_to_list, IsTrue, flat_map, not, int_lt, pos, negsuc, Option, Some, None, slice_get}
-use Rattle.std.specs.declared.cmp.Ordering.{Ordering}
+use Rattle.std.specs.Prelude.{◌==◌, ◌↔◌, IsSome, option_to_list, IsTrue, flat_map, not, int_lt, Option, Some, None, slice_get}
 use Rattle.std.specs.declared.cmp.Ordering.TheVariants.{Less, Equal, Greater}
 use Rattle.std.specs.List.{AllByRecursion}
 use Rattle.std.specs.Option.{option_map, option_map_or}
-use Rattle.std.specs.Ordering.{int_cmp, is_lt, nat_cmp, ordering_then}
-use Rattle.std.proofs.lemmas.Int.{ints}
+use Rattle.std.specs.Ordering.{int_cmp, is_lt}
 use Rattle.std.proofs.lemmas.List.{at_drop_more}
 use Rattle.std.proofs.lemmas.List.Elements.{recursion_from_All}
 use Rattle.kr_defs.specs.declared.broker.Broker.{Broker}
@@ -19,14 +17,14 @@ use Rattle.kr_defs.specs.Image.{Image, IsValid, is_index}
 use Rattle.kr_defs.specs.Map.{above, get, partition_order, text_order}
 use Rattle.kr_defs.specs.Partition.{is_natural}
 use Rattle.kr_defs.specs.Records.{partition_record}
-use Rattle.kr_defs.specs.Walk.{Walked, of_topic, rest_of_topic, walked}
+use Rattle.kr_defs.specs.Walk.{of_topic, rest_of_topic, walked}
 use Rattle.kr_defs.proofs.Tests.{both, not_true}
 use Rattle.kr_calls.specs.Metadata.{is_offline}
 use Rattle.kr_view.specs.declared.record_key.RecordKey.{RecordKey}
 use Rattle.kr_view.specs.declared.record_key.RecordKey.TheVariants as keys
-use Rattle.kr_view.specs.Listings.{listed, listed_rest, listed_topics}
+use Rattle.kr_view.specs.Listings.{listed}
 use Rattle.kr_view.specs.RecordPages.{record_of_key, record_page}
-use Rattle.kr_view.specs.RecordSections.{behind_key, behind_partition, from_settings, record_of_setting, record_of_topic}
+use Rattle.kr_view.specs.RecordSections.{behind_key, from_settings, record_of_setting, record_of_topic}
 use Rattle.kr_view.proofs.Behind.{of_topic_behind, record_page_is}
 use Rattle.kr_describe.specs.RecordFields.{id_in, is_offline_in, name_in, partition_in}
 
@@ -136,14 +134,14 @@ module _ (image : Image) where
 
 -- ---- the offline ones among replicas, of which one more is looked up
 
-pub offline_more : (replicas : List ℤ) (i : ℕ) (id : ℤ) → i < length replicas → id ≡ get_or replicas i id → (image there : Image) → there ≡ image
+pub offline_more : (replicas : List ℤ) (i : ℕ) (d id : ℤ) → i < length replicas → id ≡ get_or replicas i d → (image there : Image) → there ≡ image
     → (found new all : List ℤ) → found ++ filter (is_offline image) (drop i replicas) ≡ all → new ≡ found ++ filter (is_offline there) (id ∷ [])
     → new ++ filter (is_offline image) (drop (i + 1) replicas) ≡ all
-offline_more replicas i id lt item image there same found new all before is =
+offline_more replicas i d id lt item image there same found new all before is =
     let here : List ℤ = filter (is_offline image) (drop (i + 1) replicas) in
     ap (λ (l : List ℤ). l ++ here) (is ∙ ap (λ (m : Image). found ++ filter (is_offline m) (id ∷ [])) same)
     ∙ append_assoc found (filter (is_offline image) (id ∷ [])) here
-    ∙ ap (λ (l : List ℤ). found ++ l) (joined (is_offline image id) id here ∙ ap (λ (n : ℤ). filter (is_offline image) (n ∷ drop (i + 1) replicas)) item ∙ sym (at_drop_more (filter (is_offline image)) replicas i id lt))
+    ∙ ap (λ (l : List ℤ). found ++ l) (joined (is_offline image id) id here ∙ ap (λ (n : ℤ). filter (is_offline image) (n ∷ drop (i + 1) replicas)) item ∙ sym (at_drop_more (filter (is_offline image)) replicas i d lt))
     ∙ before
   where
     joined : (b : Bool) (n : ℤ) (rest : List ℤ) → cond b (n ∷ []) [] ++ rest ≡ cond b (n ∷ rest) rest

@@ -1,6 +1,6 @@
 -- The lines of a topic's partitions, one after the other.
-use Rattle.std.proofs.Common.{◌≡◌, ◌≢◌, ◌∙◌, ℕ, ℤ, Bool, true, false, cond, not, List, [], ◌∷◌, ◌++◌, filter, length, map, take, refl, sym, ap, subst, arith}
-use Rattle.std.specs.Prelude.{◌&&◌, ◌==◌, ◌-ℤ◌, IsTrue, int_lt, pos, negsuc, Option, Some, None, slice_get}
+use Rattle.std.proofs.Common.{◌≡◌, ◌∙◌, ℕ, ℤ, Bool, true, false, cond, not, List, [], ◌∷◌, filter, map, refl, sym, ap, arith}
+use Rattle.std.specs.Prelude.{◌==◌, ◌-ℤ◌, IsTrue, int_lt, pos, negsuc, Option, Some, None, slice_get}
 use Rattle.std.specs.declared.cmp.Ordering.{Ordering}
 use Rattle.std.specs.declared.cmp.Ordering.TheVariants.{Less, Equal, Greater}
 use Rattle.std.specs.List.{AllByRecursion}
@@ -12,7 +12,7 @@ use Rattle.std.proofs.lemmas.List.Elements.{recursion_from_All}
 use Rattle.kr_defs.specs.declared.partition.Partition.{Partition}
 use Rattle.kr_defs.specs.Image.{Image, IsValid, is_index}
 use Rattle.kr_defs.specs.Map.{IsMap, above, get, next, partition_order, text_order}
-use Rattle.kr_defs.specs.Walk.{Walked, of_topic, rest_of_topic, walk_topic, walked}
+use Rattle.kr_defs.specs.Walk.{of_topic, rest_of_topic, walk_topic, walked}
 use Rattle.kr_defs.proofs.ImageParts.{text_total}
 use Rattle.kr_defs.proofs.Tests.{some_is}
 use Rattle.kr_defs.proofs.TopicWalks.{group_begin, group_end, group_next, group_none, same_topic}
@@ -21,7 +21,7 @@ use Rattle.kr_view.proofs.Behind.{of_topic_behind}
 use Rattle.kr_pages.specs.declared.describe.DescribedTopic.{DescribedTopic}
 use Rattle.kr_pages.specs.Lines.{Line, bare_line, line_of_partition, lines_or_bare, lines_of_topic, name_lines}
 use Rattle.kr_pages.specs.Pages.{entry_of_topic, is_from, part_of}
-use Rattle.kr_describe.specs.ShownLines.{bare_entry, entries_of, index_before, name_entries, part_entries, part_entry}
+use Rattle.kr_describe.specs.ShownLines.{bare_entry, line_entries, name_entries, part_entries, part_entry}
 
 abbrev Entry : Type 0
 Entry = (ℕ × ℤ) × Partition
@@ -131,7 +131,7 @@ module _ (image : Image) (valid : IsValid image) (name : List ℕ) (index : ℤ)
       ∙ ap (λ o. not (is_lt (ordering_then o (int_cmp l.key.index index)))) (text_itself name)
       ∙ ap not (lt_is l.key.index index)
 
-  all_rows : (es : List Entry) → entries_of image (map line_of_partition (map (walked name) es)) ≡ map row es
+  all_rows : (es : List Entry) → line_entries image (map line_of_partition (map (walked name) es)) ≡ map row es
   all_rows [] = refl
   all_rows (e ∷ es) = ap (λ xs. row e ∷ xs) (all_rows es)
 
@@ -139,7 +139,7 @@ module _ (image : Image) (valid : IsValid image) (name : List ℕ) (index : ℤ)
   or_bare id [] = bare_entry name (Some id) ∷ []
   or_bare id (x ∷ xs) = x ∷ xs
 
-  entries_or_bare : (id : ℕ) (ls : List Line) → entries_of image (lines_or_bare name id ls) ≡ or_bare id (entries_of image ls)
+  entries_or_bare : (id : ℕ) (ls : List Line) → line_entries image (lines_or_bare name id ls) ≡ or_bare id (line_entries image ls)
   entries_or_bare id [] = refl
   entries_or_bare id (l ∷ ls) = refl
 
@@ -164,15 +164,15 @@ module _ (image : Image) (valid : IsValid image) (name : List ℕ) (index : ℤ)
 
     pub unknown_low : get text_order image.topics name ≡ None → name_entries image name index ≡ bare_entry name None ∷ []
     unknown_low none =
-        ap (λ (o : Option ℕ). entries_of image (filter passes (option_map_or (lines_of_topic image name) o (bare_line name None ∷ [])))) none
-        ∙ ap (λ b. entries_of image (cond b (bare_line name None ∷ []) [])) (bare_passes None)
+        ap (λ (o : Option ℕ). line_entries image (filter passes (option_map_or (lines_of_topic image name) o (bare_line name None ∷ [])))) none
+        ∙ ap (λ b. line_entries image (cond b (bare_line name None ∷ []) [])) (bare_passes None)
 
     pub known_low : (id : ℕ) → get text_order image.topics name ≡ Some id → name_entries image name index ≡ or_bare id (part_entries image name id (negsuc 0))
     known_low id named =
         let indexes = recursion_from_All (λ (e : Entry). IsTrue (is_index e.0.1)) image.partitions valid.partitions.indexes in
         let own = of_topic id image.partitions in
-        ap (λ (o : Option ℕ). entries_of image (filter passes (option_map_or (lines_of_topic image name) o (bare_line name None ∷ [])))) named
-        ∙ ap (entries_of image) (lines_pass id (map line_of_partition (walk_topic image.partitions (name, id))) (rows_pass own (indexes_in id image.partitions indexes)))
+        ap (λ (o : Option ℕ). line_entries image (filter passes (option_map_or (lines_of_topic image name) o (bare_line name None ∷ [])))) named
+        ∙ ap (line_entries image) (lines_pass id (map line_of_partition (walk_topic image.partitions (name, id))) (rows_pass own (indexes_in id image.partitions indexes)))
         ∙ entries_or_bare id (map line_of_partition (walk_topic image.partitions (name, id)))
         ∙ ap (or_bare id) (all_rows own ∙ ap (map row) (sym (group_begin id image.partitions indexes)))
 
@@ -187,11 +187,11 @@ module _ (image : Image) (valid : IsValid image) (name : List ℕ) (index : ℤ)
     row_behind : (e : Entry) → passes (line e) ≡ is_behind e
     row_behind e = own_line (line e) refl ∙ shifted e.0.1 index ∙ sym (lt_is (index -ℤ pos 1) e.0.1)
 
-    rows_behind : (es : List Entry) → entries_of image (filter passes (map line_of_partition (map (walked name) es))) ≡ map row (filter is_behind es)
+    rows_behind : (es : List Entry) → line_entries image (filter passes (map line_of_partition (map (walked name) es))) ≡ map row (filter is_behind es)
     rows_behind [] = refl
     rows_behind (e ∷ es) =
-        ap (λ b. entries_of image (cond b (line e ∷ filter passes (map line_of_partition (map (walked name) es))) (filter passes (map line_of_partition (map (walked name) es))))) (row_behind e)
-        ∙ elim (is_behind e) as (λ b. entries_of image (cond b (line e ∷ filter passes (map line_of_partition (map (walked name) es))) (filter passes (map line_of_partition (map (walked name) es)))) ≡ map row (cond b (e ∷ filter is_behind es) (filter is_behind es))) [
+        ap (λ b. line_entries image (cond b (line e ∷ filter passes (map line_of_partition (map (walked name) es))) (filter passes (map line_of_partition (map (walked name) es))))) (row_behind e)
+        ∙ elim (is_behind e) as (λ b. line_entries image (cond b (line e ∷ filter passes (map line_of_partition (map (walked name) es))) (filter passes (map line_of_partition (map (walked name) es)))) ≡ map row (cond b (e ∷ filter is_behind es) (filter is_behind es))) [
           | true ↦ ap (λ xs. row e ∷ xs) (rows_behind es)
           | false ↦ rows_behind es
         ]
@@ -202,13 +202,13 @@ module _ (image : Image) (valid : IsValid image) (name : List ℕ) (index : ℤ)
 
     pub unknown_high : get text_order image.topics name ≡ None → name_entries image name index ≡ []
     unknown_high none =
-        ap (λ (o : Option ℕ). entries_of image (filter passes (option_map_or (lines_of_topic image name) o (bare_line name None ∷ [])))) none
-        ∙ ap (λ b. entries_of image (cond b (bare_line name None ∷ []) [])) (bare_fails None)
+        ap (λ (o : Option ℕ). line_entries image (filter passes (option_map_or (lines_of_topic image name) o (bare_line name None ∷ [])))) none
+        ∙ ap (λ b. line_entries image (cond b (bare_line name None ∷ []) [])) (bare_fails None)
 
     pub known_high : (id : ℕ) → get text_order image.topics name ≡ Some id → name_entries image name index ≡ part_entries image name id (index -ℤ pos 1)
     known_high id named =
-        ap (λ (o : Option ℕ). entries_of image (filter passes (option_map_or (lines_of_topic image name) o (bare_line name None ∷ [])))) named
-        ∙ ap (entries_of image) (no_bare id (map line_of_partition (walk_topic image.partitions (name, id))))
+        ap (λ (o : Option ℕ). line_entries image (filter passes (option_map_or (lines_of_topic image name) o (bare_line name None ∷ [])))) named
+        ∙ ap (line_entries image) (no_bare id (map line_of_partition (walk_topic image.partitions (name, id))))
         ∙ rows_behind (of_topic id image.partitions)
         ∙ ap (map row) (of_topic_behind id (index -ℤ pos 1) is_behind (λ e. refl) image.partitions)
 

@@ -46,8 +46,8 @@ bare_entry name id = record {
 
 -- ---- many
 
-abbrev pub entries_of : Image → List Line → List DescribedTopic
-entries_of image those = map (entry_of_topic image) those
+abbrev pub line_entries : Image → List Line → List DescribedTopic
+line_entries image those = map (entry_of_topic image) those
 
 -- the partitions of a topic behind an index
 abbrev pub part_entries : Image → List ℕ → ℕ → ℤ → List DescribedTopic
@@ -59,11 +59,11 @@ index_before index = if int_lt index (pos 0) then negsuc 0 else index -ℤ pos 1
 
 -- the lines of a name from an index on
 abbrev pub name_entries : Image → List ℕ → ℤ → List DescribedTopic
-name_entries image name index = entries_of image (filter (is_from (Some (record { topic = name; index = index }))) (name_lines image name))
+name_entries image name index = line_entries image (filter (is_from (Some (record { topic = name; index = index }))) (name_lines image name))
 
 -- the lines of names from a cursor on
 abbrev pub names_entries : Image → LineKey → List (List ℕ) → List DescribedTopic
-names_entries image cursor names = entries_of image (filter (is_from (Some cursor)) (flat_map (name_lines image) names))
+names_entries image cursor names = line_entries image (filter (is_from (Some cursor)) (flat_map (name_lines image) names))
 
 -- the index from which on the lines of a name aren't before the cursor; none where all of them are
 abbrev pub index_after : Ordering → ℤ → Option ℤ
@@ -76,7 +76,7 @@ first_index name cursor = index_after (text_order name cursor.topic) cursor.inde
 
 -- all lines of the topics behind a name
 abbrev pub topics_entries : Image → List ℕ → List DescribedTopic
-topics_entries image name = flat_map (λ (e : List ℕ × ℕ). entries_of image (name_lines image e.0)) (above text_order image.topics (Some name))
+topics_entries image name = flat_map (λ (e : List ℕ × ℕ). line_entries image (name_lines image e.0)) (above text_order image.topics (Some name))
 
 -- the cursor, or the one before all lines
 abbrev pub cursor_or_first : Option LineKey → LineKey
@@ -94,11 +94,11 @@ is_of_topic None last = false
 is_of_topic (Some name) last = has_name name last
 
 -- an entry of the same topic as the last one joins it
-abbrev pub with_entry : List DescribedTopic → DescribedTopic → List DescribedTopic
-with_entry [] entry = entry ∷ []
-with_entry (last ∷ []) entry =
+abbrev pub with_line_entry : List DescribedTopic → DescribedTopic → List DescribedTopic
+with_line_entry [] entry = entry ∷ []
+with_line_entry (last ∷ []) entry =
     if is_of_topic entry.name last then record last { parts = last.parts ++ entry.parts } ∷ [] else last ∷ entry ∷ []
-with_entry (first ∷ second ∷ rest) entry = first ∷ with_entry (second ∷ rest) entry
+with_line_entry (first ∷ second ∷ rest) entry = first ∷ with_line_entry (second ∷ rest) entry
 
 -- where an entry of one line stands
 abbrev pub key_of_entry : DescribedTopic → LineKey
@@ -110,6 +110,6 @@ key_of_entry entry = record {
 -- the first entries put together, and where the one behind them stands
 abbrev pub described_of : List DescribedTopic → ℕ → Described
 described_of entries limit = record {
-  topics = fold with_entry [] (take limit entries);
+  topics = fold with_line_entry [] (take limit entries);
   next = option_map key_of_entry (slice_get entries limit);
 }

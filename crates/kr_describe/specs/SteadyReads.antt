@@ -35,15 +35,15 @@ abbrev pub HasPageCause : {T : Type 0} → Reading → Reading → Result T Page
 HasPageCause old new result = MatchResult result (λ _. new.misses ≡ old.misses) (IsPageCause old new)
 
 -- another number of images in place of all, or the greatest u64, where it stands still
-abbrev pub IsOther : ℕ → ℕ → Type 0
-IsOther first later = (later ≡ first → ⊥) ⊎ (later ≡ 2 ^ 64 - 1)
+abbrev pub IsOtherCount : ℕ → ℕ → Type 0
+IsOtherCount first later = (later ≡ first → ⊥) ⊎ (later ≡ 2 ^ 64 - 1)
 
 -- one may have come between two lists
-abbrev pub MayBeLoaded : List Entry → List Entry → Type 0
-MayBeLoaded first later = IsOther (loads_of first) (loads_of later)
+abbrev pub MayDiffer : List Entry → List Entry → Type 0
+MayDiffer first later = IsOtherCount (loads_of first) (loads_of later)
 
 -- none came, and so the place, which is kept in the later list too, has the image of the first one there
-pub record StillKept (place : ℤ) (first later : List Entry) : Type 0 where
+pub record StaysKept (place : ℤ) (first later : List Entry) : Type 0 where
   pub kept : IsTrue (is_kept_in later place)
   pub image : image_below place later ≡ image_below place first
   pub loads : loads_of later ≡ loads_of first
@@ -51,8 +51,8 @@ pub record StillKept (place : ℤ) (first later : List Entry) : Type 0 where
 
 -- ---- behind the first call
 
-abbrev pub image_at : Steady → Reading → Image
-image_at s r = image_below s.place r.seen.list
+abbrev pub steady_image : Steady → Reading → Image
+steady_image s r = image_below s.place r.seen.list
 
 -- the place is kept in the list, whose images in place of all can be told by their number
 pub record IsSteady (s : Steady) (r : Reading) : Type 0 where
@@ -60,20 +60,20 @@ pub record IsSteady (s : Steady) (r : Reading) : Type 0 where
   pub kept : IsTrue (is_kept_in r.seen.list s.place)
   pub loads : s.loads ≡ loads_of r.seen.list
   pub few : s.loads < 2 ^ 64 - 1
-  pub valid : IsValid (image_at s r)
+  pub valid : IsValid (steady_image s r)
 
 -- why a later call gave nothing of the image that the first one found
 abbrev pub IsUnsteady : ℤ → List Entry → List Entry → PageFault → Type 0
 IsUnsteady place first new (faults.Scan fault) = IsNotThere (pinned_log new) place fault
-IsUnsteady place first new (faults.Loaded before later) = IsTrue (is_kept_in new place) × (before ≡ loads_of first) × (later ≡ loads_of new) × MayBeLoaded first new
-IsUnsteady place first new faults.NoMemory = StillKept place first new
+IsUnsteady place first new (faults.Loaded before later) = IsTrue (is_kept_in new place) × (before ≡ loads_of first) × (later ≡ loads_of new) × MayDiffer first new
+IsUnsteady place first new faults.NoMemory = StaysKept place first new
 
 -- what any number of them leave: the image at the place, or why they ended
-pub record Goes {A T : Type 0} (reading : A → Reading) (with_reading : A → Reading → A) (s : Steady) (old new : A) (result : Result T PageFault) : Type 0 where
+pub record GoesSteadily {A T : Type 0} (reading : A → Reading) (with_reading : A → Reading → A) (s : Steady) (old new : A) (result : Result T PageFault) : Type 0 where
   pub calls : Calls reading with_reading old new
   pub onward : Onward (reading old).seen (reading new).seen
   pub cause : HasPageCause (reading old) (reading new) result
-  pub ends : MatchResult result (λ _. StillKept s.place (reading old).seen.list (reading new).seen.list) (IsUnsteady s.place (reading old).seen.list (reading new).seen.list)
+  pub ends : MatchResult result (λ _. StaysKept s.place (reading old).seen.list (reading new).seen.list) (IsUnsteady s.place (reading old).seen.list (reading new).seen.list)
 
 -- ---- from the first call on
 
@@ -84,7 +84,7 @@ pub record WasLoaded (old new : List Entry) (before later : ℕ) : Type 0 where
   pub onward : GoesOn new first
   pub counted_first : before ≡ loads_of first
   pub counted_new : later ≡ loads_of new
-  pub loaded : MayBeLoaded first new
+  pub loaded : MayDiffer first new
 
 -- why there is no page
 abbrev pub IsPageStop : ℤ → List Entry → List Entry → PageFault → Type 0

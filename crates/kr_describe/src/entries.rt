@@ -5,14 +5,14 @@ ghost use Rattle.kr_calls.specs.Metadata as metadata;
 ghost use Rattle.kr_defs.specs.Map.{get, text_order};
 ghost use Rattle.kr_pages.specs.Pages.{part_of};
 ghost use Rattle.kr_describe.specs.ShownLines as shown;
-ghost use Rattle.kr_describe.specs.SteadyReads.{Goes, IsSteady, image_at};
+ghost use Rattle.kr_describe.specs.SteadyReads.{GoesSteadily, IsSteady, steady_image};
 
 use crate::lookups::{next_name, next_partition, offline_among, topic_id};
 use crate::steady::{PageFault, Steady};
-use kr_pages::{DescribedPart, DescribedTopic, DescribedTopics};
 use kr_base::NoMemory;
 use kr_calls::errors::{LEADER_NOT_AVAILABLE, UNKNOWN_TOPIC_OR_PARTITION};
 use kr_defs::{Copied, Ids, Partition, Rows, Text};
+use kr_pages::{DescribedPart, DescribedTopic, DescribedTopics};
 use kr_view::RecordReader;
 use std::alloc::Global;
 
@@ -101,9 +101,9 @@ fn partition_line<R: RecordReader>(
     state: Partition,
 ) -> Result<DescribedPart, PageFault>
     requires { IsSteady steady.now (R.reading reader.old) }
-    ensures went { Goes R.reading R.with_reading steady.now reader.old reader.new result }
+    ensures went { GoesSteadily R.reading R.with_reading steady.now reader.old reader.new result }
     ensures part { IfOk result (λ part. part ≡ part_of
-        (image_at steady.now (R.reading reader.old)) index state) }
+        (steady_image steady.now (R.reading reader.old)) index state) }
 {
     let offline = offline_among(alloc, steady, reader, state.replicas.as_slice())?;
     Ok(part_with(index, state, offline))
@@ -122,12 +122,12 @@ fn add_parts<R: RecordReader>(
     entries: &mut DescribedTopics,
 ) -> Result<(), PageFault>
     requires steady { IsSteady steady.now (R.reading reader.old) }
-    requires named { get text_order (image_at steady.now (R.reading reader.old)).topics name.now
+    requires named { get text_order (steady_image steady.now (R.reading reader.old)).topics name.now
         ≡ Some id.now }
     requires few { length entries.old ≤ most }
-    ensures went { Goes R.reading R.with_reading steady.now reader.old reader.new result }
+    ensures went { GoesSteadily R.reading R.with_reading steady.now reader.old reader.new result }
     ensures entries { OnOk result (entries.new ≡ take most (entries.old ++ shown.part_entries
-        (image_at steady.now (R.reading reader.old)) name.now id.now after)) }
+        (steady_image steady.now (R.reading reader.old)) name.now id.now after)) }
 {
     let mut last = after;
     while let Some((index, state)) = next_partition(alloc, steady, reader, name, id, last)? {
@@ -185,13 +185,13 @@ fn add_known<R: RecordReader>(
     entries: &mut DescribedTopics,
 ) -> Result<(), PageFault>
     requires steady { IsSteady steady.now (R.reading reader.old) }
-    requires named { get text_order (image_at steady.now (R.reading reader.old)).topics name.now
+    requires named { get text_order (steady_image steady.now (R.reading reader.old)).topics name.now
         ≡ Some id.now }
     requires few { length entries.old ≤ most }
     requires free { nat_le most (length entries.old) ≡ false }
-    ensures went { Goes R.reading R.with_reading steady.now reader.old reader.new result }
+    ensures went { GoesSteadily R.reading R.with_reading steady.now reader.old reader.new result }
     ensures entries { OnOk result (entries.new ≡ take most (entries.old ++ shown.name_entries
-        (image_at steady.now (R.reading reader.old)) name.now index)) }
+        (steady_image steady.now (R.reading reader.old)) name.now index)) }
 {
     let before = entries.len();
     add_parts(
@@ -222,9 +222,9 @@ pub(crate) fn add_name<R: RecordReader>(
 ) -> Result<(), PageFault>
     requires steady { IsSteady steady.now (R.reading reader.old) }
     requires few { length entries.old ≤ most }
-    ensures went { Goes R.reading R.with_reading steady.now reader.old reader.new result }
+    ensures went { GoesSteadily R.reading R.with_reading steady.now reader.old reader.new result }
     ensures entries { OnOk result (entries.new ≡ take most (entries.old ++ shown.name_entries
-        (image_at steady.now (R.reading reader.old)) name.now index)) }
+        (steady_image steady.now (R.reading reader.old)) name.now index)) }
 {
     if is_full(entries, most) {
         return Ok(());
@@ -249,9 +249,9 @@ pub(crate) fn add_topics<R: RecordReader>(
 ) -> Result<(), PageFault>
     requires steady { IsSteady steady.now (R.reading reader.old) }
     requires few { length entries.old ≤ most }
-    ensures went { Goes R.reading R.with_reading steady.now reader.old reader.new result }
+    ensures went { GoesSteadily R.reading R.with_reading steady.now reader.old reader.new result }
     ensures entries { OnOk result (entries.new ≡ take most (entries.old ++ shown.topics_entries
-        (image_at steady.now (R.reading reader.old)) after.now)) }
+        (steady_image steady.now (R.reading reader.old)) after.now)) }
 {
     let mut last = after.copied(alloc)?;
     while let Some(name) = next_name(alloc, steady, reader, &last)? {

@@ -1,12 +1,13 @@
 //! What a page asks of the image, one record at a time.
 
-ghost use Rattle.std.specs.Prelude.{◌≡◌, ℕ, ℤ, [], ◌∷◌, ◌++◌, List, IfOk, OnOk, Some, filter, slice_get};
+ghost use Rattle.std.specs.Prelude.{◌≡◌, ℕ, ℤ, [], ◌∷◌, ◌++◌, List, FitsSigned, IfOk, IfSome, OnOk, Some, filter, slice_get};
+ghost use Rattle.std.specs.Int.{w32};
 ghost use Rattle.std.specs.Option.{option_map};
 ghost use Rattle.kr_calls.specs.Metadata.{is_offline};
 ghost use Rattle.kr_defs.specs.declared.partition.Partition.{Partition as AnyPartition};
 ghost use Rattle.kr_defs.specs.Map.{above, get, text_order};
 ghost use Rattle.kr_defs.specs.Walk.{rest_of_topic};
-ghost use Rattle.kr_describe.specs.SteadyReads.{Goes, IsSteady, image_at};
+ghost use Rattle.kr_describe.specs.SteadyReads.{GoesSteadily, IsSteady, steady_image};
 
 use crate::record_fields::{id_in, is_offline_in, name_in, partition_in};
 use crate::steady::{PageFault, Steady};
@@ -24,9 +25,9 @@ pub(crate) fn topic_id<R: RecordReader>(
     name: &Text,
 ) -> Result<Option<u128>, PageFault>
     requires { IsSteady steady.now (R.reading reader.old) }
-    ensures went { Goes R.reading R.with_reading steady.now reader.old reader.new result }
+    ensures went { GoesSteadily R.reading R.with_reading steady.now reader.old reader.new result }
     ensures id { IfOk result (λ id. id ≡ get text_order
-        (image_at steady.now (R.reading reader.old)).topics name.now) }
+        (steady_image steady.now (R.reading reader.old)).topics name.now) }
 {
     let key = RecordKey::Topic {
         name: name.copied(alloc)?,
@@ -44,9 +45,9 @@ pub(crate) fn next_name<R: RecordReader>(
     name: &Text,
 ) -> Result<Option<Text>, PageFault>
     requires { IsSteady steady.now (R.reading reader.old) }
-    ensures went { Goes R.reading R.with_reading steady.now reader.old reader.new result }
+    ensures went { GoesSteadily R.reading R.with_reading steady.now reader.old reader.new result }
     ensures name { IfOk result (λ next. next ≡ option_map (λ (e : List ℕ × ℕ). e.0) (slice_get
-        (above text_order (image_at steady.now (R.reading reader.old)).topics (Some name.now)) 0)) }
+        (above text_order (steady_image steady.now (R.reading reader.old)).topics (Some name.now)) 0)) }
 {
     let last = RecordKey::Partition {
         topic: name.copied(alloc)?,
@@ -67,12 +68,13 @@ pub(crate) fn next_partition<R: RecordReader>(
     index: i32,
 ) -> Result<Option<(i32, Partition)>, PageFault>
     requires steady { IsSteady steady.now (R.reading reader.old) }
-    requires named { get text_order (image_at steady.now (R.reading reader.old)).topics name.now
+    requires named { get text_order (steady_image steady.now (R.reading reader.old)).topics name.now
         ≡ Some id.now }
-    ensures went { Goes R.reading R.with_reading steady.now reader.old reader.new result }
+    ensures went { GoesSteadily R.reading R.with_reading steady.now reader.old reader.new result }
+    ensures fits { IfOk result (λ next. IfSome next (λ p. FitsSigned w32 p.0)) }
     ensures partition { IfOk result (λ next. next ≡ option_map
         (λ (e : (ℕ × ℤ) × AnyPartition). (e.0.1, e.1)) (slice_get (rest_of_topic (id.now, index)
-        (image_at steady.now (R.reading reader.old)).partitions) 0)) }
+        (steady_image steady.now (R.reading reader.old)).partitions) 0)) }
 {
     let last = RecordKey::Partition {
         topic: name.copied(alloc)?,
@@ -86,14 +88,14 @@ pub(crate) fn next_partition<R: RecordReader>(
 fn is_broker_offline<R: RecordReader>(
     steady: &Steady,
     reader: &mut R,
-    id: &i32,
+    id: i32,
 ) -> Result<bool, PageFault>
     requires { IsSteady steady.now (R.reading reader.old) }
-    ensures went { Goes R.reading R.with_reading steady.now reader.old reader.new result }
+    ensures went { GoesSteadily R.reading R.with_reading steady.now reader.old reader.new result }
     ensures offline { IfOk result (λ b. b ≡ is_offline
-        (image_at steady.now (R.reading reader.old)) id.now) }
+        (steady_image steady.now (R.reading reader.old)) id) }
 {
-    let key = RecordKey::Broker { id: *id };
+    let key = RecordKey::Broker { id };
     let found = steady.one(reader, &key)?;
     Ok(is_offline_in(&found))
 }
@@ -107,11 +109,11 @@ fn add_offline<R: RecordReader>(
     offline: &mut Ids,
 ) -> Result<(), PageFault>
     requires { IsSteady steady.now (R.reading reader.old) }
-    ensures went { Goes R.reading R.with_reading steady.now reader.old reader.new result }
+    ensures went { GoesSteadily R.reading R.with_reading steady.now reader.old reader.new result }
     ensures offline { OnOk result (offline.new ≡ offline.old ++ filter
-        (is_offline (image_at steady.now (R.reading reader.old))) (id.now ∷ [])) }
+        (is_offline (steady_image steady.now (R.reading reader.old))) (id.now ∷ [])) }
 {
-    if is_broker_offline(steady, reader, id)? {
+    if is_broker_offline(steady, reader, *id)? {
         offline.push(*id)?;
     }
     Ok(())
@@ -126,9 +128,9 @@ pub(crate) fn offline_among<R: RecordReader>(
     replicas: &[i32],
 ) -> Result<Ids, PageFault>
     requires { IsSteady steady.now (R.reading reader.old) }
-    ensures went { Goes R.reading R.with_reading steady.now reader.old reader.new result }
+    ensures went { GoesSteadily R.reading R.with_reading steady.now reader.old reader.new result }
     ensures offline { IfOk result (λ ids. ids ≡ filter
-        (is_offline (image_at steady.now (R.reading reader.old))) replicas.now) }
+        (is_offline (steady_image steady.now (R.reading reader.old))) replicas.now) }
 {
     let mut offline = Ids::new(alloc);
     for id in replicas {

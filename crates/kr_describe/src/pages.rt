@@ -1,32 +1,33 @@
 //! A page of the description of topics, at one place.
 
-ghost use Rattle.std.specs.Prelude.{◌≡◌, ◌≤◌, ◌+◌, ◌∷◌, ◌++◌, [], IfErr, IfOk, IsTrue, OnOk, length, take};
-ghost use Rattle.std.specs.Option.{option_map_or};
+ghost use Rattle.std.specs.Prelude.{◌≡◌, ◌≤◌, ◌+◌, ◌++◌, [], IfErr, IfOk, IsTrue, OnOk, fold, length, slice_get, take};
+ghost use Rattle.std.specs.Option.{option_map, option_map_or};
 ghost use Rattle.std.specs.Map.{keys_of};
 ghost use Rattle.kr_calls.specs.SeatList.{image_below, is_kept_in};
 ghost use Rattle.kr_view.specs.Seats.{Onward};
 ghost use Rattle.kr_pages.specs.Lines.{names_of};
 ghost use Rattle.kr_pages.specs.Pages.{limit_of, page};
 ghost use Rattle.kr_describe.specs.ShownLines as shown;
-ghost use Rattle.kr_describe.specs.SteadyReads.{Calls, Goes, HasPageCause, IsPageStop, IsSteady, image_at};
+ghost use Rattle.kr_describe.specs.SteadyReads.{Calls, GoesSteadily, HasPageCause, IsPageStop, IsSteady, steady_image};
 
 use crate::entries::{add_name, add_topics};
 use crate::lookups::topic_id;
 use crate::names::{Names, first_index, in_order};
 use crate::steady::{PageFault, Steady};
-use kr_pages::{Describe, Described, DescribedParts, DescribedTopic, DescribedTopics, LineKey};
 use kr_base::NoMemory;
 use kr_defs::{Copied, Rows, Text};
+use kr_pages::{Describe, Described, DescribedParts, DescribedTopic, DescribedTopics, LineKey};
 use kr_view::RecordReader;
 use std::alloc::Global;
 
 // A limit below 1 or above this counts as this.
 const MOST_LINES: i32 = 2000;
 
-fn limit_of(limit: i32) -> usize
-    ensures value { result ≡ limit_of limit }
+fn limit_of(limit: &i32) -> usize
+    ensures value { result ≡ limit_of limit.now }
     ensures few { result ≤ 2000 }
 {
+    let limit = *limit;
     if limit < 1 || limit > MOST_LINES {
         MOST_LINES as usize
     } else {
@@ -46,7 +47,7 @@ fn is_of_topic(name: &Option<Text>, last: &DescribedTopic) -> bool
     }
 }
 
-fn joined(parts: DescribedParts, more: DescribedParts) -> Result<DescribedParts, NoMemory>
+fn all_parts(parts: DescribedParts, more: DescribedParts) -> Result<DescribedParts, NoMemory>
     ensures { IfOk result (λ all. all ≡ parts ++ more) }
 {
     let mut all = parts.into_vec();
@@ -56,14 +57,14 @@ fn joined(parts: DescribedParts, more: DescribedParts) -> Result<DescribedParts,
 
 // An entry of the same topic as the last one joins it.
 fn add_entry(topics: &mut Vec<DescribedTopic>, entry: DescribedTopic) -> Result<(), NoMemory>
-    ensures { OnOk result (topics.new.items ≡ shown.with_entry topics.old.items entry) }
+    ensures { OnOk result (topics.new.items ≡ shown.with_line_entry topics.old.items entry) }
 {
     let Some(mut last) = topics.pop() else {
         topics.push(entry)?;
         return Ok(());
     };
     if is_of_topic(&entry.name, &last) {
-        last.parts = joined(last.parts, entry.parts)?;
+        last.parts = all_parts(last.parts, entry.parts)?;
         topics.push(last)?;
         return Ok(());
     }
@@ -86,28 +87,38 @@ fn key_of_entry(alloc: Global, entry: DescribedTopic) -> LineKey
     }
 }
 
-// The first entries put together, and where the one behind them stands.
-fn described(
-    alloc: Global,
-    entries: DescribedTopics,
-    limit: usize,
-) -> Result<Described, NoMemory>
-    requires { length entries ≤ limit + 1 }
-    ensures { IfOk result (λ d. d ≡ shown.described_of entries limit) }
+fn put_together(alloc: Global, lines: Vec<DescribedTopic>) -> Result<Vec<DescribedTopic>, NoMemory>
+    ensures { IfOk result (λ topics. topics.items ≡ fold shown.with_line_entry [] lines.items) }
 {
-    let mut lines = entries.into_vec();
-    let mut next = None;
-    if lines.len() > limit {
-        next = lines.pop().map(|entry| key_of_entry(alloc, entry));
-    }
     let mut topics = Vec::new(alloc);
     for entry in lines {
         add_entry(&mut topics, entry)?;
     }
-    Ok(Described {
-        topics: Rows::from_vec(topics),
-        next,
-    })
+    Ok(topics)
+}
+
+// Where the entry behind the limit stands, which is taken away.
+fn next_key(alloc: Global, lines: &mut Vec<DescribedTopic>, limit: usize) -> Option<LineKey>
+    requires { length lines.old.items ≤ limit + 1 }
+    ensures next { result ≡ option_map shown.key_of_entry (slice_get lines.old.items limit) }
+    ensures first { lines.new.items ≡ take limit lines.old.items }
+{
+    if lines.len() <= limit {
+        return None;
+    }
+    let entry = lines.pop()?;
+    Some(key_of_entry(alloc, entry))
+}
+
+// The first entries put together, and where the one behind them stands.
+fn page_of(alloc: Global, entries: DescribedTopics, limit: usize) -> Result<Described, NoMemory>
+    requires { length entries ≤ limit + 1 }
+    ensures { IfOk result (λ d. d ≡ shown.described_of entries limit) }
+{
+    let mut lines = entries.into_vec();
+    let next = next_key(alloc, &mut lines, limit);
+    let topics = Rows::from_vec(put_together(alloc, lines)?);
+    Ok(Described { topics, next })
 }
 
 // ---- lines from a cursor on
@@ -125,9 +136,9 @@ fn add_from<R: RecordReader>(
 ) -> Result<(), PageFault>
     requires steady { IsSteady steady.now (R.reading reader.old) }
     requires few { length entries.old ≤ most }
-    ensures went { Goes R.reading R.with_reading steady.now reader.old reader.new result }
+    ensures went { GoesSteadily R.reading R.with_reading steady.now reader.old reader.new result }
     ensures entries { OnOk result (entries.new ≡ take most (entries.old ++ option_map_or
-        (shown.name_entries (image_at steady.now (R.reading reader.old)) name.now)
+        (shown.name_entries (steady_image steady.now (R.reading reader.old)) name.now)
         (shown.first_index name.now cursor.now) [])) }
 {
     let Some(index) = first_index(name, cursor) else {
@@ -150,9 +161,9 @@ fn add_names<R: RecordReader>(
 ) -> Result<(), PageFault>
     requires steady { IsSteady steady.now (R.reading reader.old) }
     requires few { length entries.old ≤ most }
-    ensures went { Goes R.reading R.with_reading steady.now reader.old reader.new result }
+    ensures went { GoesSteadily R.reading R.with_reading steady.now reader.old reader.new result }
     ensures entries { OnOk result (entries.new ≡ take most (entries.old ++ shown.names_entries
-        (image_at steady.now (R.reading reader.old)) cursor.now (keys_of names.entries))) }
+        (steady_image steady.now (R.reading reader.old)) cursor.now (keys_of names.entries))) }
 {
     while let Some((name, ())) = names.pop_first() {
         add_from(alloc, steady, reader, &name, cursor, most, entries)?;
@@ -172,9 +183,9 @@ fn add_own<R: RecordReader>(
 ) -> Result<(), PageFault>
     requires steady { IsSteady steady.now (R.reading reader.old) }
     requires few { length entries.old ≤ most }
-    ensures went { Goes R.reading R.with_reading steady.now reader.old reader.new result }
+    ensures went { GoesSteadily R.reading R.with_reading steady.now reader.old reader.new result }
     ensures entries { OnOk result (entries.new ≡ take most (entries.old ++ shown.own_entries
-        (image_at steady.now (R.reading reader.old)) cursor.now)) }
+        (steady_image steady.now (R.reading reader.old)) cursor.now)) }
 {
     let Some(_id) = topic_id(alloc, steady, reader, &cursor.topic)? else {
         return Ok(());
@@ -203,10 +214,10 @@ fn add_all<R: RecordReader>(
 ) -> Result<(), PageFault>
     requires steady { IsSteady steady.now (R.reading reader.old) }
     requires few { length entries.old ≤ most }
-    ensures went { Goes R.reading R.with_reading steady.now reader.old reader.new result }
+    ensures went { GoesSteadily R.reading R.with_reading steady.now reader.old reader.new result }
     ensures entries { OnOk result (entries.new ≡ take most (entries.old ++ shown.names_entries
-        (image_at steady.now (R.reading reader.old)) cursor.now
-        (keys_of (image_at steady.now (R.reading reader.old)).topics))) }
+        (steady_image steady.now (R.reading reader.old)) cursor.now
+        (keys_of (steady_image steady.now (R.reading reader.old)).topics))) }
 {
     add_own(alloc, steady, reader, cursor, most, entries)?;
     add_topics(alloc, steady, reader, &cursor.topic, most, entries)?;
@@ -229,6 +240,7 @@ fn cursor_of(alloc: Global, cursor: &Option<LineKey>) -> Result<LineKey, NoMemor
     }
 }
 
+// Of the names that are asked for, or of all topics.
 #[tactic(auto, using(crate::proofs::SoFar::ends))]
 fn add_lines<R: RecordReader>(
     alloc: Global,
@@ -240,10 +252,10 @@ fn add_lines<R: RecordReader>(
 ) -> Result<(), PageFault>
     requires steady { IsSteady steady.now (R.reading reader.old) }
     requires few { length entries.old ≤ most }
-    ensures went { Goes R.reading R.with_reading steady.now reader.old reader.new result }
+    ensures went { GoesSteadily R.reading R.with_reading steady.now reader.old reader.new result }
     ensures entries { OnOk result (entries.new ≡ take most (entries.old ++ shown.names_entries
-        (image_at steady.now (R.reading reader.old)) (shown.cursor_or_first describe.now.cursor)
-        (names_of (image_at steady.now (R.reading reader.old)) describe.now.names))) }
+        (steady_image steady.now (R.reading reader.old)) (shown.cursor_or_first describe.now.cursor)
+        (names_of (steady_image steady.now (R.reading reader.old)) describe.now.names))) }
 {
     let cursor = cursor_of(alloc, &describe.cursor)?;
     if describe.names.is_empty() {
@@ -272,9 +284,9 @@ pub fn page<R: RecordReader>(
     ensures stop { IfErr result (IsPageStop place (R.reading reader.old).seen.list
         (R.reading reader.new).seen.list) }
 {
-    let limit = limit_of(describe.limit);
+    let limit = limit_of(&describe.limit);
     let steady = Steady::begin(reader, place)?;
     let mut entries = Rows::new(alloc);
     add_lines(alloc, &steady, reader, describe, limit + 1, &mut entries)?;
-    Ok(described(alloc, entries, limit)?)
+    Ok(page_of(alloc, entries, limit)?)
 }

@@ -1,6 +1,7 @@
 //! What a record tells, where there is one and it is of the kind.
 
-ghost use Rattle.std.specs.Prelude.{◌≡◌, IfOk};
+ghost use Rattle.std.specs.Prelude.{◌≡◌, FitsSigned, IfOk, IfSome};
+ghost use Rattle.std.specs.Int.{w32};
 ghost use Rattle.kr_describe.specs.RecordFields as fields;
 
 use kr_base::NoMemory;
@@ -29,7 +30,8 @@ pub(crate) fn partition_in(
     alloc: Global,
     found: &Option<Record>,
 ) -> Result<Option<(i32, Partition)>, NoMemory>
-    ensures { IfOk result (λ partition. partition ≡ fields.partition_in found.now) }
+    ensures partition { IfOk result (λ partition. partition ≡ fields.partition_in found.now) }
+    ensures fits { IfOk result (λ partition. IfSome partition (λ p. FitsSigned w32 p.0)) }
 {
     match found {
         Some(Record::Partition { index, state, .. }) => Ok(Some((*index, state.copied(alloc)?))),

@@ -4,7 +4,7 @@ ghost use Rattle.std.specs.Prelude.{◌≡◌, ◌≤◌, ◌<◌, ◌-◌, ◌^
 ghost use Rattle.kr_view.specs.RecordPages.{record_of_key, record_page};
 ghost use Rattle.kr_view.specs.Seats.{Onward};
 ghost use Rattle.kr_describe.specs.declared.steady.PageFault.TheVariants as faults;
-ghost use Rattle.kr_describe.specs.SteadyReads.{Calls, Goes, HasPageCause, IsOther, IsPageStop, IsSteady, image_at};
+ghost use Rattle.kr_describe.specs.SteadyReads.{Calls, GoesSteadily, HasPageCause, IsOtherCount, IsPageStop, IsSteady, steady_image};
 
 use kr_base::NoMemory;
 use kr_calls::laws::kept_places_stay;
@@ -90,7 +90,7 @@ impl Steady {
     fn stays(&self, later: u64) -> Result<(), PageFault>
         ensures ok { OnOk result ((later ≡ self.now.loads) × (later < 2 ^ 64 - 1)) }
         ensures err { IfErr result (λ fault. (fault ≡ faults.Loaded self.now.loads later)
-            × IsOther self.now.loads later) }
+            × IsOtherCount self.now.loads later) }
     {
         if later != self.loads || later == u64::MAX {
             return Err(PageFault::Loaded {
@@ -108,9 +108,9 @@ impl Steady {
         after: &RecordKey,
     ) -> Result<Option<Record>, PageFault>
         requires { IsSteady self.now (R.reading reader.old) }
-        ensures went { Goes R.reading R.with_reading self.now reader.old reader.new result }
+        ensures went { GoesSteadily R.reading R.with_reading self.now reader.old reader.new result }
         ensures next { IfOk result (λ next. next ≡ slice_get
-            (record_page (image_at self.now (R.reading reader.old)) (Some after.now) 1) 0) }
+            (record_page (steady_image self.now (R.reading reader.old)) (Some after.now) 1) 0) }
     {
         kept_places_stay();
         let page = reader.records(self.place, Some(after), 1)?;
@@ -125,9 +125,9 @@ impl Steady {
         key: &RecordKey,
     ) -> Result<Option<Record>, PageFault>
         requires { IsSteady self.now (R.reading reader.old) }
-        ensures went { Goes R.reading R.with_reading self.now reader.old reader.new result }
+        ensures went { GoesSteadily R.reading R.with_reading self.now reader.old reader.new result }
         ensures one { IfOk result (λ one. one ≡ record_of_key
-            (image_at self.now (R.reading reader.old)) key.now) }
+            (steady_image self.now (R.reading reader.old)) key.now) }
     {
         kept_places_stay();
         let record = reader.record(self.place, key)?;

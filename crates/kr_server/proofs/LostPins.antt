@@ -14,7 +14,7 @@ use Rattle.kr_calls.specs.SeatList.{PinnedLog, is_kept_in, is_load, is_place_kep
 use Rattle.kr_calls.specs.SeatListLaws.{unpins}
 use Rattle.kr_describe.specs.declared.steady.PageFault.{PageFault}
 use Rattle.kr_describe.specs.declared.steady.PageFault.TheVariants as page_faults
-use Rattle.kr_describe.specs.SteadyReads.{IsPageStop, MayBeLoaded}
+use Rattle.kr_describe.specs.SteadyReads.{IsPageStop, MayDiffer}
 use Rattle.kr_view.specs.CopiesRule.{GoesOn}
 use Rattle.kr_view.specs.Scans.{IsNotThere}
 use Rattle.kr_view.specs.declared.scans.ScanFault.TheVariants as scans
@@ -129,7 +129,7 @@ module _ (pin : Pin) (old new : List Entry) (kept : IsKeptFrom old pin) (first :
   same_behind none =
       ap loads_of h.1 ∙ fold-append loads_with 0 first h.0 ∙ same_loads pin (loads_of first) h.0 (later_part g.0 h.0 (later_part kept.rest (g.0 ++ h.0) none))
 
-  loaded : MayBeLoaded first new → IsLost pin new
+  loaded : MayDiffer first new → IsLost pin new
   loaded (inl differs) = lost_where pin old new kept through (λ none. absurd (differs (same_behind none)))
   loaded (inr full) = lost_where pin old new kept through (λ none. full)
 

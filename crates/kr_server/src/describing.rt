@@ -65,10 +65,13 @@ fn begin<R: Wait>(
     ensures asks { OnOk result (AsksForPages seat.old seat.new) }
     ensures places { KeepsPlaces seat.old paging.old.held seat.new paging.new.held }
 {
-    match paging.held {
-        Some(place) if goes_on => Ok(place),
-        _ => paging.renew(rt, seat),
+    let Some(place) = paging.held else {
+        return paging.renew(rt, seat);
+    };
+    if goes_on {
+        return Ok(place);
     }
+    paging.renew(rt, seat)
 }
 
 // The place is given back where no line is left.
@@ -82,7 +85,10 @@ fn finish<R: Wait>(
     ensures finished { Finished goes_on paging.old.held seat.old seat.new paging.new.held result }
     ensures places { KeepsPlaces seat.old paging.old.held seat.new paging.new.held }
 {
-    if goes_on { Ok(()) } else { paging.let_go(rt, seat) }
+    if goes_on {
+        return Ok(());
+    }
+    paging.let_go(rt, seat)
 }
 
 // Reads the page at the place that is held. Where the pin is lost, the committed end is held instead.

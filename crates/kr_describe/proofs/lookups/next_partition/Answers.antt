@@ -8,7 +8,7 @@ pub returns-clause-partition : goal.returns-clause-partition
 returns-clause-partition g c =
     let own = to_z-of_z w32 c.args.index c.ranges.index in
     let found = rw c.in_ok-copied.ensures at c.in_ok-found.ensures.next in
-    c.in_ok-partition_in.ensures ∙ partition_next _ c.args.name.now c.args.id.now c.args.index _ c.requires.steady.valid c.requires.named (rw own at found)
+    c.in_ok-partition_in.ensures.partition ∙ partition_next _ c.args.name.now c.args.id.now c.args.index _ c.requires.steady.valid c.requires.named (rw own at found)
 
 pub returns-in_err-copied-clause-went : goal.returns-in_err-copied-clause-went
 returns-in_err-copied-clause-went g c = no_memory g.R.RecordReader.reading g.R.RecordReader.with_reading c.args.steady.now c.args.reader.now c.from_residual.result c.requires.steady c.from_residual.ensures.1

@@ -1,4 +1,4 @@
-use Rattle.std.proofs.Common.{◌≡◌, ◌∙◌, ap, w64, to_z, of_z}
+use Rattle.std.proofs.Common.{◌∙◌, ap, w64}
 use Rattle.std.proofs.lemmas.Int.{to_z-of_z}
 use Rattle.kr_view.specs.RecordPages.{record_of_key}
 use Rattle.kr_describe.proofs.Going.{call_done, call_fails, call_image, call_loaded}
