@@ -16,7 +16,7 @@ use Rattle.kr_pages.specs.declared.describe.DescribedPart.{DescribedPart}
 use Rattle.kr_pages.specs.declared.describe.DescribedTopic.{DescribedTopic}
 use Rattle.kr_pages.specs.Lines.{name_lines}
 use Rattle.kr_pages.specs.Pages.{part_of}
-use Rattle.kr_describe.specs.ShownLines.{bare_entry, line_entries, index_before, name_entries, part_entries, part_entry, topics_entries}
+use Rattle.kr_describe.specs.inner.ShownLines.{bare_entry, line_entries, index_before, name_entries, part_entries, part_entry, topics_entries}
 use Rattle.kr_describe.proofs.ShownParts.{indexed, known_high, known_low, name_passes, no_part_left, or_bare, part_left, unknown_high, unknown_low}
 
 abbrev Entry : Type 0

@@ -26,7 +26,7 @@ use Rattle.kr_view.specs.Listings.{listed}
 use Rattle.kr_view.specs.RecordPages.{record_of_key, record_page}
 use Rattle.kr_view.specs.RecordSections.{behind_key, from_settings, record_of_setting, record_of_topic}
 use Rattle.kr_view.proofs.Behind.{of_topic_behind, record_page_is}
-use Rattle.kr_describe.specs.RecordFields.{id_in, is_offline_in, name_in, partition_in}
+use Rattle.kr_describe.specs.inner.RecordFields.{id_in, is_offline_in, name_in, partition_in}
 
 abbrev Entry : Type 0
 Entry = (ℕ × ℤ) × Partition

@@ -23,7 +23,7 @@ use Rattle.kr_pages.specs.declared.describe.LineKey.{LineKey}
 use Rattle.kr_pages.specs.declared.describe.DescribedTopic.{DescribedTopic}
 use Rattle.kr_pages.specs.Lines.{Line, bare_line, in_order, line_of_partition, lines_of_topic, lines, lines_or_bare, name_lines, names_of}
 use Rattle.kr_pages.specs.Pages.{entry_of_topic, is_from, lines_from}
-use Rattle.kr_describe.specs.ShownLines.{cursor_or_first, line_entries, first_index, index_after, name_entries, names_entries, own_entries, topics_entries}
+use Rattle.kr_describe.specs.inner.ShownLines.{cursor_or_first, line_entries, first_index, index_after, name_entries, names_entries, own_entries, topics_entries}
 use Rattle.kr_describe.proofs.ShownParts.{name_passes}
 
 -- ---- all lines of a name have it

@@ -14,7 +14,7 @@ use Rattle.kr_pages.specs.declared.describe.DescribedPart.{DescribedPart}
 use Rattle.kr_pages.specs.declared.describe.DescribedTopic.{DescribedTopic}
 use Rattle.kr_pages.specs.Lines.{Line, bare_line, line_of_partition, lines, lines_of_topic, lines_or_bare, name_lines, names_of}
 use Rattle.kr_pages.specs.Pages.{entry_of_topic, is_from, lines_from, limit_of, page, topic_entries, with_line}
-use Rattle.kr_describe.specs.ShownLines.{described_of, line_entries, is_of_topic, key_of_entry, with_line_entry}
+use Rattle.kr_describe.specs.inner.ShownLines.{described_of, line_entries, is_of_topic, key_of_entry, with_line_entry}
 
 module _ (image : Image) where
   -- ---- entries

@@ -21,7 +21,7 @@ use Rattle.kr_view.proofs.Behind.{of_topic_behind}
 use Rattle.kr_pages.specs.declared.describe.DescribedTopic.{DescribedTopic}
 use Rattle.kr_pages.specs.Lines.{Line, bare_line, line_of_partition, lines_or_bare, lines_of_topic, name_lines}
 use Rattle.kr_pages.specs.Pages.{entry_of_topic, is_from, part_of}
-use Rattle.kr_describe.specs.ShownLines.{bare_entry, line_entries, name_entries, part_entries, part_entry}
+use Rattle.kr_describe.specs.inner.ShownLines.{bare_entry, line_entries, name_entries, part_entries, part_entry}
 
 abbrev Entry : Type 0
 Entry = (ℕ × ℤ) × Partition

@@ -1,3 +1,2 @@
-pub mod RecordFields
-pub mod ShownLines
 pub mod SteadyReads
+pub mod inner

@@ -1,4 +1,4 @@
--- Calls of a reader for one page: all of them see the image at one place, while no image comes in place of all. This project's own.
+-- Calls of a reader that see one image. This project's own.
 use Rattle.std.specs.Prelude.{◌≡◌, ◌⊎◌, ℕ, ℤ, ◌<◌, ◌^◌, ◌-◌, FitsSigned, IsTrue, List, MatchResult}
 use Rattle.std.specs.Int.{w64}
 use Rattle.core.specs.declared.result.Result.{Result}

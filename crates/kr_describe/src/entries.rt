@@ -4,7 +4,7 @@ ghost use Rattle.std.specs.Prelude.{◌≡◌, ◌≤◌, ◌&&◌, [], ◌∷�
 ghost use Rattle.kr_calls.specs.Metadata as metadata;
 ghost use Rattle.kr_defs.specs.Map.{get, text_order};
 ghost use Rattle.kr_pages.specs.Pages.{part_of};
-ghost use Rattle.kr_describe.specs.ShownLines as shown;
+ghost use Rattle.kr_describe.specs.inner.ShownLines as shown;
 ghost use Rattle.kr_describe.specs.SteadyReads.{GoesSteadily, IsSteady, steady_image};
 
 use crate::lookups::{next_name, next_partition, offline_among, topic_id};

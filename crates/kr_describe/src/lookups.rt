@@ -46,8 +46,9 @@ pub(crate) fn next_name<R: RecordReader>(
 ) -> Result<Option<Text>, PageFault>
     requires { IsSteady steady.now (R.reading reader.old) }
     ensures went { GoesSteadily R.reading R.with_reading steady.now reader.old reader.new result }
-    ensures name { IfOk result (λ next. next ≡ option_map (λ (e : List ℕ × ℕ). e.0) (slice_get
-        (above text_order (steady_image steady.now (R.reading reader.old)).topics (Some name.now)) 0)) }
+    ensures name { IfOk result (λ next. next ≡ option_map (λ (e : List ℕ × ℕ). e.0)
+        (slice_get (above text_order (steady_image steady.now (R.reading reader.old)).topics
+        (Some name.now)) 0)) }
 {
     let last = RecordKey::Partition {
         topic: name.copied(alloc)?,

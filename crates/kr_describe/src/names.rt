@@ -3,7 +3,7 @@
 ghost use Rattle.std.specs.Prelude.{◌≡◌, IfOk, OnOk};
 ghost use Rattle.std.specs.Map.{keys_of};
 ghost use Rattle.kr_pages.specs.Lines.{in_order, with_name};
-ghost use Rattle.kr_describe.specs.ShownLines as shown;
+ghost use Rattle.kr_describe.specs.inner.ShownLines as shown;
 
 use kr_base::NoMemory;
 use kr_defs::{Copied, Text, Texts};

@@ -7,7 +7,7 @@ ghost use Rattle.kr_calls.specs.SeatList.{image_below, is_kept_in};
 ghost use Rattle.kr_view.specs.Seats.{Onward};
 ghost use Rattle.kr_pages.specs.Lines.{names_of};
 ghost use Rattle.kr_pages.specs.Pages.{limit_of, page};
-ghost use Rattle.kr_describe.specs.ShownLines as shown;
+ghost use Rattle.kr_describe.specs.inner.ShownLines as shown;
 ghost use Rattle.kr_describe.specs.SteadyReads.{Calls, GoesSteadily, HasPageCause, IsPageStop, IsSteady, steady_image};
 
 use crate::entries::{add_name, add_topics};

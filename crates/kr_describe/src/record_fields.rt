@@ -2,7 +2,7 @@
 
 ghost use Rattle.std.specs.Prelude.{◌≡◌, FitsSigned, IfOk, IfSome};
 ghost use Rattle.std.specs.Int.{w32};
-ghost use Rattle.kr_describe.specs.RecordFields as fields;
+ghost use Rattle.kr_describe.specs.inner.RecordFields as fields;
 
 use kr_base::NoMemory;
 use kr_defs::{Copied, Partition, Record, Text};

@@ -1,6 +1,6 @@
 use Rattle.std.proofs.lemmas.Int.{to_z-of_z}
 use Rattle.std.proofs.Common.{w32, ◌∙◌, ◌++◌, ℤ, ap, take}
-use Rattle.kr_describe.specs.ShownLines.{part_entries}
+use Rattle.kr_describe.specs.inner.ShownLines.{part_entries}
 use Rattle.kr_describe.specs.SteadyReads.{steady_image}
 use Rattle.kr_describe.proofs.LineSteps.{known_done}
 use Rattle.kr_describe.proofs.entries.add_known.Goals as goal

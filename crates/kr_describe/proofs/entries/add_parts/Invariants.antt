@@ -1,6 +1,6 @@
 use Rattle.std.proofs.Common.{◌-◌, length}
 use Rattle.kr_view.proofs.Filling.{IsFilling}
-use Rattle.kr_describe.specs.ShownLines.{part_entries}
+use Rattle.kr_describe.specs.inner.ShownLines.{part_entries}
 use Rattle.kr_describe.specs.SteadyReads.{steady_image}
 use Rattle.kr_describe.proofs.SoFar.{SoFar}
 use Rattle.kr_describe.proofs.entries.add_parts.Given as goal

@@ -1,7 +1,7 @@
 use Rattle.std.proofs.Common.{Some, length}
 use Rattle.kr_defs.specs.Map.{above, text_order}
 use Rattle.kr_view.proofs.Filling.{IsFilling}
-use Rattle.kr_describe.specs.ShownLines.{topics_entries}
+use Rattle.kr_describe.specs.inner.ShownLines.{topics_entries}
 use Rattle.kr_describe.specs.SteadyReads.{steady_image}
 use Rattle.kr_describe.proofs.SoFar.{SoFar}
 use Rattle.kr_describe.proofs.entries.add_topics.Given as goal

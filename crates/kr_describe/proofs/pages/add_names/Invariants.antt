@@ -1,7 +1,7 @@
 use Rattle.std.proofs.Common.{length}
 use Rattle.std.specs.Map.{keys_of}
 use Rattle.kr_view.proofs.Filling.{IsFilling}
-use Rattle.kr_describe.specs.ShownLines.{names_entries}
+use Rattle.kr_describe.specs.inner.ShownLines.{names_entries}
 use Rattle.kr_describe.specs.SteadyReads.{steady_image}
 use Rattle.kr_describe.proofs.SoFar.{SoFar}
 use Rattle.kr_describe.proofs.pages.add_names.Given as goal

@@ -1,6 +1,6 @@
 use Rattle.std.proofs.Common.{◌≡◌, [], fold, length}
 use Rattle.std.specs.Vec.Iter.{into_iter_items, into_iter_len}
-use Rattle.kr_describe.specs.ShownLines.{with_line_entry}
+use Rattle.kr_describe.specs.inner.ShownLines.{with_line_entry}
 use Rattle.kr_describe.proofs.pages.put_together.Given as goal
 
 abbrev pub invariant-loop-entry : goal.invariant-loop-entry

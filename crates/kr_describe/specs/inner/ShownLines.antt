@@ -1,4 +1,4 @@
--- Lines of a description, each as an entry of its topic that shows it alone, and how such entries are put together. This project's own.
+-- Lines as entries of their topics, and these put together. This project's own.
 use Rattle.std.specs.Prelude.{ℕ, ℤ, Bool, false, pos, negsuc, int_lt, ◌-ℤ◌, List, [], ◌∷◌, ◌++◌, filter, flat_map, fold, map, slice_get, take, Option, Some, None, if◌then◌else◌}
 use Rattle.std.specs.declared.cmp.Ordering.{Ordering}
 use Rattle.std.specs.declared.cmp.Ordering.TheVariants.{Less, Equal, Greater}

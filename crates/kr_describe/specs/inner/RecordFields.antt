@@ -1,4 +1,4 @@
--- What a record tells, where there is one and it is of the kind.
+-- What a record of the kind tells.
 use Rattle.std.specs.Prelude.{ℕ, ℤ, List, Option, Some, None, Bool, true}
 use Rattle.kr_defs.specs.declared.partition.Partition.{Partition}
 use Rattle.kr_defs.specs.declared.record.Record.{Record}
