@@ -4,6 +4,7 @@ mod HeldPlaces
 mod Lists
 mod LostPins
 mod PageCalls
+mod PageReads
 mod Pages
 mod Readings
 mod Refusals

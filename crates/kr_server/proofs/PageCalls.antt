@@ -1,6 +1,6 @@
 -- What calls for pages leave: the seat's list goes on, and no write was pushed.
 use Rattle.std.proofs.Common.{cond, ◌≡◌, ◌∙◌, ◌⊎◌, inl, inr, ℕ, ℤ, List, [], ◌∷◌, ◌++◌, filter, Result, Ok, Err, refl, sym, ap, subst, append-nil}
-use Rattle.std.specs.Prelude.{Bool, true, false, Option, Some, None}
+use Rattle.std.specs.Prelude.{MatchResult, Bool, true, false, Option, Some, None}
 use Rattle.std.proofs.lemmas.List.Elements.{filter-append}
 use Rattle.kr_calls.specs.declared.pins.Pin.{Pin}
 use Rattle.kr_calls.specs.SeatList.{end_of}
@@ -12,15 +12,13 @@ use Rattle.kr_view.specs.Seats.{Onward}
 use Rattle.kr_shared.specs.declared.clients.SubmitFault.{SubmitFault}
 use Rattle.kr_shared.specs.declared.clients.SubmitFault.TheVariants as submits
 use Rattle.kr_shared.specs.declared.pins.PinFault.TheVariants as pin_faults
-use Rattle.kr_shared.specs.declared.pins.Wanted.{Wanted}
-use Rattle.kr_shared.specs.declared.pins.Wanted.TheVariants as wants
 use Rattle.kr_shared.specs.Clients.{Client, MayRise}
-use Rattle.kr_shared.specs.Grants.{PushedPlace, PushedPlaceAtFault, job_of_wanted}
+use Rattle.kr_shared.specs.Grants.{IsNotGranted}
 use Rattle.kr_shared.proofs.Misses.{may_rise_behind}
 use Rattle.kr_shared.proofs.Onwards.{onward_refl, onward_trans}
 use Rattle.kr_server.specs.declared.end.ServeEnd.{ServeEnd}
 use Rattle.kr_server.specs.declared.end.ServeEnd.TheVariants as ends
-use Rattle.kr_server.specs.PagingCalls.{HoldsFor, HoldsOn, IsPageEnd, IsPageExchange, IsPlaceRefused, KeepsFor, PinsOne, ReadsRecords, Unpins, no_pin, no_unpin}
+use Rattle.kr_server.specs.PagingCalls.{PushedJob, PushedJobAtFault, pin_job, unpin_job, HoldsFor, HoldsOn, IsPageEnd, IsPageExchange, IsPlaceRefused, KeepsFor, PinsOne, ReadsRecords, Unpins, no_pin, no_unpin}
 use Rattle.kr_server.specs.SeatCalls.{AsksForPages, is_write, writes_among}
 
 -- ---- one after the other
@@ -40,43 +38,60 @@ asks_same a b same = subst (AsksForPages a) (sym same) (asks_nothing a)
 
 -- ---- one call
 
-no_write : (old new : Client) (wanted : Wanted) → is_write (job_of_wanted old.number new.ticket (end_of old.seen.list) wanted) ≡ false
-no_write old new wants.Pin = refl
-no_write old new (wants.Unpin place) = refl
-
 without_others : (xs : List Job) (job : Job) → is_write job ≡ false → writes_among (xs ++ job ∷ []) ≡ writes_among xs
 without_others xs job other =
     filter-append is_write xs (job ∷ [])
     ∙ (ap (λ b. writes_among xs ++ cond b (job ∷ []) []) other ∙ append-nil (writes_among xs))
 
-pushed_place : (old new : Client) (wanted : Wanted) → PushedPlace old new wanted → writes_among new.pushed ≡ writes_among old.pushed
-pushed_place old new wanted pushed = ap writes_among pushed ∙ without_others old.pushed (job_of_wanted old.number new.ticket (end_of old.seen.list) wanted) (no_write old new wanted)
+module _ (old new : Client) (job : Job) (other : is_write job ≡ false) where
+  pushed_job : PushedJob old new job → writes_among new.pushed ≡ writes_among old.pushed
+  pushed_job pushed = ap writes_among pushed ∙ without_others old.pushed job other
 
-or_pushed : (old new : Client) (wanted : Wanted) → (new.pushed ≡ old.pushed) ⊎ PushedPlace old new wanted → writes_among new.pushed ≡ writes_among old.pushed
-or_pushed old new wanted (inl same) = ap writes_among same
-or_pushed old new wanted (inr pushed) = pushed_place old new wanted pushed
+  or_pushed : (new.pushed ≡ old.pushed) ⊎ PushedJob old new job → writes_among new.pushed ≡ writes_among old.pushed
+  or_pushed (inl same) = ap writes_among same
+  or_pushed (inr pushed) = pushed_job pushed
 
-pushed_at_fault : (old new : Client) (wanted : Wanted) (fault : SubmitFault) → PushedPlaceAtFault old new wanted fault → writes_among new.pushed ≡ writes_among old.pushed
-pushed_at_fault old new wanted (submits.Ended number) p = or_pushed old new wanted p
-pushed_at_fault old new wanted (submits.Ahead floor tip) p = pushed_place old new wanted p
-pushed_at_fault old new wanted (submits.Exhausted tip) p = absurd p
-pushed_at_fault old new wanted submits.NoMemory p = or_pushed old new wanted p
+  pushed_at_fault : (fault : SubmitFault) → PushedJobAtFault old new job fault → writes_among new.pushed ≡ writes_among old.pushed
+  pushed_at_fault (submits.Ended number) p = or_pushed p
+  pushed_at_fault (submits.Ahead floor tip) p = pushed_job p
+  pushed_at_fault (submits.Exhausted tip) p = absurd p
+  pushed_at_fault submits.NoMemory p = or_pushed p
 
 unpin_writes : (old new : Client) (place : ℤ) (result : Result (Unit {0}) SubmitFault) → Unpins old new place result → writes_among new.pushed ≡ writes_among old.pushed
-unpin_writes old new place (Ok done) u = pushed_place old new (wants.Unpin place) u.pushed
-unpin_writes old new place (Err fault) u = pushed_at_fault old new (wants.Unpin place) fault u.pushed
+unpin_writes old new place (Ok done) u = pushed_job old new (unpin_job old new place) refl u.pushed
+unpin_writes old new place (Err fault) u = pushed_at_fault old new (unpin_job old new place) refl fault u.pushed
 
 pub asks_unpin : (old new : Client) (place : ℤ) (result : Result (Unit {0}) SubmitFault) → Unpins old new place result → AsksForPages old new
 asks_unpin old new place result u = record { onward = u.onward; misses = u.misses; writes = unpin_writes old new place result u }
 
 pub asks_pin : (old new : Client) (pin : Pin) → PinsOne old new pin → AsksForPages old new
-asks_pin old new pin p = record { onward = p.onward; misses = p.misses; writes = pushed_place old new wants.Pin p.pushed }
+asks_pin old new pin p = record { onward = p.onward; misses = p.misses; writes = pushed_job old new (pin_job old new) refl p.pushed }
 
 pub asks_records : (old new : Client) → ReadsRecords old new → AsksForPages old new
 asks_records old new r = record { onward = r.onward; misses = r.misses; writes = ap (λ (c : Client). writes_among c.pushed) r.same }
 
+-- whatever tells of each fault
+pub pushed_by_fault : (old new : Client) (job : Job) (result : Result (Unit {0}) SubmitFault) (Q : Type 0) (P : SubmitFault → Type 0)
+    → MatchResult result (λ _. Q) P → (Q → PushedJob old new job)
+    → ((number : ℕ) → P (submits.Ended number) → (new.pushed ≡ old.pushed) ⊎ PushedJob old new job)
+    → ((floor tip : ℤ) → P (submits.Ahead floor tip) → PushedJob old new job)
+    → ((tip : ℤ) → P (submits.Exhausted tip) → ⊥)
+    → (P submits.NoMemory → (new.pushed ≡ old.pushed) ⊎ PushedJob old new job)
+    → MatchResult result (λ _. PushedJob old new job) (PushedJobAtFault old new job)
+pushed_by_fault old new job (Ok done) Q P p ok ended ahead exhausted memory = ok p
+pushed_by_fault old new job (Err (submits.Ended number)) Q P p ok ended ahead exhausted memory = ended number p
+pushed_by_fault old new job (Err (submits.Ahead floor tip)) Q P p ok ended ahead exhausted memory = ahead floor tip p
+pushed_by_fault old new job (Err (submits.Exhausted tip)) Q P p ok ended ahead exhausted memory = exhausted tip p
+pushed_by_fault old new job (Err submits.NoMemory) Q P p ok ended ahead exhausted memory = memory p
+
+pin_refused : (old new : Client) (fault : SubmitFault) → IsNotGranted old new fault → PushedJobAtFault old new (pin_job old new) fault
+pin_refused old new (submits.Ended number) c = c.pushed
+pin_refused old new (submits.Ahead floor tip) c = c.pushed
+pin_refused old new (submits.Exhausted tip) c = c.pushed
+pin_refused old new submits.NoMemory c = c.pushed
+
 pub asks_refused : (old new : Client) (fault : SubmitFault) → IsPlaceRefused old new fault → AsksForPages old new
-asks_refused old new fault (no_pin cause onward misses) = record { onward = onward; misses = misses; writes = pushed_at_fault old new wants.Pin fault cause.pushed }
+asks_refused old new fault (no_pin cause onward misses) = record { onward = onward; misses = misses; writes = pushed_at_fault old new (pin_job old new) refl fault (pin_refused old new fault cause) }
 asks_refused old new fault (no_unpin place u) = asks_unpin old new place (Err fault) u
 
 -- ---- for one page

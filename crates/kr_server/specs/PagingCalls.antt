@@ -1,5 +1,5 @@
 -- What a client's seat tells of the calls for a page. This project's own.
-use Rattle.std.specs.Prelude.{◌≡◌, ◌⊎◌, ℕ, ℤ, ◌<◌, ◌^◌, ◌-◌, false, IsTrue, List, [], ◌∷◌, ◌++◌, Option, Some, None, Result, Ok, Err, MatchResult, IfOk, IfErr, OnOk, OnErr}
+use Rattle.std.specs.Prelude.{int_lt, not, ◌≡◌, ◌⊎◌, ℕ, ℤ, ◌<◌, ◌^◌, ◌-◌, false, IsTrue, List, [], ◌∷◌, ◌++◌, Option, Some, None, Result, Ok, Err, MatchResult, IfOk, IfErr, OnOk, OnErr}
 use Rattle.std.specs.List.{AllByRecursion}
 use Rattle.kr_base.specs.Causes.{Rose, raised}
 use Rattle.kr_calls.specs.declared.events.Entry.{Entry}
@@ -13,27 +13,48 @@ use Rattle.kr_pages.specs.declared.describe.DescribeAsk.TheVariants as describes
 use Rattle.kr_pages.specs.declared.describe.LineKey.{LineKey}
 use Rattle.kr_pages.specs.Messages.{IsDescribeAsk}
 use Rattle.kr_pages.specs.Pages.{page}
+use Rattle.kr_queue.specs.declared.jobs.Job.{Job}
+use Rattle.kr_queue.specs.declared.jobs.Job.TheVariants as jobs
+use Rattle.kr_view.specs.Looks.{HasRightEntry}
 use Rattle.kr_view.specs.Seats.{Onward}
 use Rattle.kr_shared.specs.declared.clients.SubmitFault.{SubmitFault}
 use Rattle.kr_shared.specs.declared.clients.SubmitFault.TheVariants as submits
 use Rattle.kr_shared.specs.declared.pins.PinFault.{PinFault}
 use Rattle.kr_shared.specs.declared.pins.PinFault.TheVariants as pin_faults
-use Rattle.kr_shared.specs.declared.pins.Wanted.TheVariants as wants
 use Rattle.kr_shared.specs.declared.places.TheConstants.{MOST_PLACES}
 use Rattle.kr_shared.specs.Clients.{Client, MayRise}
-use Rattle.kr_shared.specs.Grants.{IsGranted, IsKeptFrom, IsPinCause, IsPlaceCause, PushedPlace, PushedPlaceAtFault, pin_at}
+use Rattle.kr_shared.specs.Grants.{IsKeptFrom, IsPinCause, IsPlaceCause, pin_at}
 use Rattle.kr_shared.specs.HeldPlaces.{with_place, without_place}
+use Rattle.kr_shared.specs.Turns.{pin_entry, unpin_entry}
 use Rattle.kr_server.specs.declared.end.ServeEnd.{ServeEnd}
 use Rattle.kr_server.specs.declared.end.ServeEnd.TheVariants as ends
+
+-- the seat pushed this job
+abbrev pub PushedJob : Client → Client → Job → Type 0
+PushedJob old new job = new.pushed ≡ old.pushed ++ job ∷ []
+
+-- perhaps not, where the worker stopped or there was no memory
+abbrev pub PushedJobAtFault : Client → Client → Job → SubmitFault → Type 0
+PushedJobAtFault old new job (submits.Ended number) = (new.pushed ≡ old.pushed) ⊎ PushedJob old new job
+PushedJobAtFault old new job (submits.Ahead floor tip) = PushedJob old new job
+PushedJobAtFault old new job (submits.Exhausted tip) = ⊥
+PushedJobAtFault old new job submits.NoMemory = (new.pushed ≡ old.pushed) ⊎ PushedJob old new job
+
+-- the job names the end of all that the seat had seen
+abbrev pub pin_job : Client → Client → Job
+pin_job old new = jobs.Pin old.number new.ticket (end_of old.seen.list)
+
+abbrev pub unpin_job : Client → Client → ℤ → Job
+unpin_job old new place = jobs.Unpin old.number new.ticket (end_of old.seen.list) place
 
 -- what `unpin` tells of a place and its result
 pub record Unpins (old new : Client) (place : ℤ) (result : Result (Unit {0}) SubmitFault) : Type 0 where
   pub onward : Onward old.seen new.seen
-  pub granted : OnOk result (IsGranted new.seen old.number new.ticket (end_of old.seen.list) (wants.Unpin place) place)
+  pub granted : OnOk result (HasRightEntry new.seen.options new.seen.list (unpin_entry old.number new.ticket place))
   pub held : OnOk result (new.held ≡ without_place old.held place)
   pub same : OnErr result (new.held ≡ old.held)
   pub cause : IfErr result (λ fault. IsPlaceCause new.seen old.number new.ticket (end_of old.seen.list) fault)
-  pub pushed : MatchResult result (λ _. PushedPlace old new (wants.Unpin place)) (λ fault. PushedPlaceAtFault old new (wants.Unpin place) fault)
+  pub pushed : MatchResult result (λ _. PushedJob old new (unpin_job old new place)) (λ fault. PushedJobAtFault old new (unpin_job old new place) fault)
   pub number : new.number ≡ old.number
   pub ticket : new.ticket ≡ raised old.ticket
   pub misses : MayRise old.misses new.misses
@@ -42,11 +63,12 @@ pub record Unpins (old new : Client) (place : ℤ) (result : Result (Unit {0}) S
 pub record PinsOne (old new : Client) (pin : Pin) : Type 0 where
   pub is : pin ≡ pin_at old.number new.ticket pin.place
   pub onward : Onward old.seen new.seen
-  pub granted : IsGranted new.seen old.number new.ticket (end_of old.seen.list) wants.Pin pin.place
+  pub granted : HasRightEntry new.seen.options new.seen.list (pin_entry old.number new.ticket pin.place)
+  pub later : IsTrue (not (int_lt pin.place (end_of old.seen.list)))
   pub kept : IsKeptFrom new.seen.list pin
   pub held : new.held ≡ with_place old.held pin.place
   pub few : length old.held < MOST_PLACES
-  pub pushed : PushedPlace old new wants.Pin
+  pub pushed : PushedJob old new (pin_job old new)
   pub number : new.number ≡ old.number
   pub ticket : new.ticket ≡ raised old.ticket
   pub misses : MayRise old.misses new.misses

@@ -26,6 +26,7 @@ pub(crate) enum Tried {
 }
 
 // The page at the place.
+#[tactic(auto, using(crate::proofs::PageReads::page_reading))]
 fn page_at(
     alloc: Global,
     seat: &mut ClientSeat,
