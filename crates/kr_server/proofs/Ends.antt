@@ -70,8 +70,8 @@ module _ (before after : Connection) (held left : Option ℤ) (new : Client) (re
   pub served_onward : (end : ServeEnd) → Served before after end → Onward before.seat.seen new.seen
   served_onward end s =
       onward_trans before.seat.seen after.seat.seen new.seen
-        (onward_trans before.seat.seen s.mid.seat.seen after.seat.seen (onward_all (holder before.seat None) s.mid s.xs s.exchanged) (onward_behind _ s.rest after.left s.mid after.seat end s.behind))
-        (asks_last held left after.seat new result g).onward
+      (onward_trans before.seat.seen s.mid.seat.seen after.seat.seen (onward_all (holder before.seat None) s.mid s.xs s.exchanged) (onward_behind _ s.rest after.left s.mid after.seat end s.behind))
+      (asks_last held left after.seat new result g).onward
 
   -- no copy only where the count rose
   rose_further : (n m k : ℕ) → Rose n m → MayRise m k → Rose n k
@@ -81,8 +81,8 @@ module _ (before after : Connection) (held left : Option ℤ) (new : Client) (re
   no_copy_rose : Served before after ends.NoCopy → Rose before.seat.misses new.misses
   no_copy_rose s =
       rose_further before.seat.misses after.seat.misses new.misses
-        (rose_behind before.seat.misses s.mid.seat.misses after.seat.misses (misses_all (holder before.seat None) s.mid s.xs s.exchanged) (rose_copy s.mid.seat after.seat s.behind.message s.behind.holds))
-        (asks_last held left after.seat new result g).misses
+      (rose_behind before.seat.misses s.mid.seat.misses after.seat.misses (misses_all (holder before.seat None) s.mid s.xs s.exchanged) (rose_copy s.mid.seat after.seat s.behind.message s.behind.holds))
+      (asks_last held left after.seat new result g).misses
 
   pub copy_cause : (end : ServeEnd) → Served before after end → end ≡ ends.NoCopy → Rose before.seat.misses new.misses
   copy_cause end s is = no_copy_rose (subst (Served before after) is s)

@@ -104,7 +104,7 @@ module _ (pin : Pin) (old new : List Entry) (kept : IsKeptFrom old pin) (on : Go
     kept = λ more none.
         let P : List Entry → Type 0 = λ l. IsTrue (is_kept_in l pin.place) in
         subst P (sym (ap (λ (l : List Entry). l ++ more) on.1 ∙ append_assoc old on.0 more))
-          (kept.kept (on.0 ++ more) (subst (AllByRecursion (λ e. unpins pin e ≡ false)) (append_assoc kept.rest on.0 more) none));
+        (kept.kept (on.0 ++ more) (subst (AllByRecursion (λ e. unpins pin e ≡ false)) (append_assoc kept.rest on.0 more) none));
   }
 
   none_behind : AllByRecursion (λ e. unpins pin e ≡ false) (kept.rest ++ on.0) → IsTrue (is_kept_in new pin.place)

@@ -1,6 +1,6 @@
 -- What calls for pages leave: the seat's list goes on, and no write was pushed.
 use Rattle.std.proofs.Common.{cond, ◌≡◌, ◌∙◌, ◌⊎◌, inl, inr, ℕ, ℤ, List, [], ◌∷◌, ◌++◌, filter, Result, Ok, Err, refl, sym, ap, subst, append-nil}
-use Rattle.std.specs.Prelude.{MatchResult, Bool, true, false, Option, Some, None}
+use Rattle.std.specs.Prelude.{Bool, true, false, Option, Some, None}
 use Rattle.std.proofs.lemmas.List.Elements.{filter-append}
 use Rattle.kr_calls.specs.declared.pins.Pin.{Pin}
 use Rattle.kr_calls.specs.SeatList.{end_of}
@@ -70,20 +70,6 @@ asks_pin old new pin p = record { onward = p.onward; misses = p.misses; writes =
 pub asks_records : (old new : Client) → ReadsRecords old new → AsksForPages old new
 asks_records old new r = record { onward = r.onward; misses = r.misses; writes = ap (λ (c : Client). writes_among c.pushed) r.same }
 
--- whatever tells of each fault
-pub pushed_by_fault : (old new : Client) (job : Job) (result : Result (Unit {0}) SubmitFault) (Q : Type 0) (P : SubmitFault → Type 0)
-    → MatchResult result (λ _. Q) P → (Q → PushedJob old new job)
-    → ((number : ℕ) → P (submits.Ended number) → (new.pushed ≡ old.pushed) ⊎ PushedJob old new job)
-    → ((floor tip : ℤ) → P (submits.Ahead floor tip) → PushedJob old new job)
-    → ((tip : ℤ) → P (submits.Exhausted tip) → ⊥)
-    → (P submits.NoMemory → (new.pushed ≡ old.pushed) ⊎ PushedJob old new job)
-    → MatchResult result (λ _. PushedJob old new job) (PushedJobAtFault old new job)
-pushed_by_fault old new job (Ok done) Q P p ok ended ahead exhausted memory = ok p
-pushed_by_fault old new job (Err (submits.Ended number)) Q P p ok ended ahead exhausted memory = ended number p
-pushed_by_fault old new job (Err (submits.Ahead floor tip)) Q P p ok ended ahead exhausted memory = ahead floor tip p
-pushed_by_fault old new job (Err (submits.Exhausted tip)) Q P p ok ended ahead exhausted memory = exhausted tip p
-pushed_by_fault old new job (Err submits.NoMemory) Q P p ok ended ahead exhausted memory = memory p
-
 pin_refused : (old new : Client) (fault : SubmitFault) → IsNotGranted old new fault → PushedJobAtFault old new (pin_job old new) fault
 pin_refused old new (submits.Ended number) c = c.pushed
 pin_refused old new (submits.Ahead floor tip) c = c.pushed
@@ -106,8 +92,8 @@ pub asks_on : (old : Client) (held : Pin) (others : List Pin) (new : Client) (pi
 asks_on old held [] new pin h = asks_same old new h.0
 asks_on old held (next ∷ more) new pin h =
     asks_more old h.2 new
-      (asks_more old h.1 h.2 (asks_more old h.0 h.1 (asks_records old h.0 h.3) (asks_unpin h.0 h.1 held.place (Ok tt) h.5)) (asks_pin h.1 h.2 next h.6))
-      (asks_on h.2 next more new pin h.7)
+    (asks_more old h.1 h.2 (asks_more old h.0 h.1 (asks_records old h.0 h.3) (asks_unpin h.0 h.1 held.place (Ok tt) h.5)) (asks_pin h.1 h.2 next h.6))
+    (asks_on h.2 next more new pin h.7)
 
 pub asks_to_keep : (next : Option LineKey) (old : Client) (held : Pin) (new : Client) (left : Option Pin) → KeepsFor next old held new left → AsksForPages old new
 asks_to_keep (Some next) old held new left k = asks_same old new k.0
@@ -117,8 +103,8 @@ module _ (old new : Client) (held left : Option Pin) where
   pub asks_for_page : (place : ℤ) (d : Describe) (described : Described) → IsPageExchange old held new left place d described → AsksForPages old new
   asks_for_page place d described p =
       asks_more old p.ready new
-        (asks_more old p.first p.ready (asks_to_hold d.cursor held old p.first p.own p.begins) (asks_on p.first p.own p.others p.ready p.pin p.holds))
-        (asks_more p.ready p.got new (asks_records p.ready p.got p.reads) (asks_to_keep described.next p.got p.pin new left p.ends))
+      (asks_more old p.first p.ready (asks_to_hold d.cursor held old p.first p.own p.begins) (asks_on p.first p.own p.others p.ready p.pin p.holds))
+      (asks_more p.ready p.got new (asks_records p.ready p.got p.reads) (asks_to_keep described.next p.got p.pin new left p.ends))
 
 -- ---- for a page that isn't there
 

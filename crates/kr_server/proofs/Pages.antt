@@ -195,7 +195,7 @@ module _ (cursor : Option LineKey) (before : Holder) (old got : Client) (place :
         by_next (Some next) is =
             let g : Finished true (Some place) got new left (Ok tt) = subst (λ (o : Option LineKey). Finished (is_some o) (Some place) got new left (Ok tt)) is f in
             made_as (Some ready.pin) shown kept asked (subst (λ (o : Option LineKey). KeepsFor o got ready.pin new (Some ready.pin)) (sym is) (g.1, refl))
-              (record { is = g.2 ∙ ap (λ (i : ℤ). Some i) ready.at; kept = subst (λ (c : Client). IsKeptFrom c.seen.list ready.pin) (sym g.1) kept_there })
+            (record { is = g.2 ∙ ap (λ (i : ℤ). Some i) ready.at; kept = subst (λ (c : Client). IsKeptFrom c.seen.list ready.pin) (sym g.1) kept_there })
 
 -- ---- no page
 

@@ -1,5 +1,5 @@
 -- What a client's seat tells of the calls for a page. This project's own.
-use Rattle.std.specs.Prelude.{int_lt, not, ◌≡◌, ◌⊎◌, ℕ, ℤ, ◌<◌, ◌^◌, ◌-◌, false, IsTrue, List, [], ◌∷◌, ◌++◌, Option, Some, None, Result, Ok, Err, MatchResult, IfOk, IfErr, OnOk, OnErr}
+use Rattle.std.specs.Prelude.{int_lt, length, not, ◌≡◌, ◌⊎◌, ℕ, ℤ, ◌<◌, ◌^◌, ◌-◌, false, IsTrue, List, [], ◌∷◌, ◌++◌, Option, Some, None, Result, Ok, Err, MatchResult, IfOk, IfErr, OnOk, OnErr}
 use Rattle.std.specs.List.{AllByRecursion}
 use Rattle.kr_base.specs.Causes.{Rose, raised}
 use Rattle.kr_calls.specs.declared.events.Entry.{Entry}

@@ -10,7 +10,10 @@ pub enum Exchange {
     /// A write, and what was decided of it.
     Write(Shared<Answered>),
     /// A read, and its reply.
-    Read { call: Call, reply: Reply },
+    Read {
+        call: Call,
+        reply: Reply,
+    },
     /// A page of the description of topics: of the image at the place, and what it shows.
     Page {
         correlation: i32,
@@ -19,5 +22,8 @@ pub enum Exchange {
         described: Described,
     },
     /// A message that was no call and no page, and the error with which it was replied.
-    Bare { correlation: i32, error: i16 },
+    Bare {
+        correlation: i32,
+        error: i16,
+    },
 }

@@ -47,7 +47,11 @@ impl Paging {
 
     /// Gives back the place that is held, if one is.
     #[tactic(auto, using(crate::proofs::HeldPlaces::places))]
-    pub(crate) fn let_go<R: Wait>(&mut self, rt: &R, seat: &mut ClientSeat) -> Result<(), SubmitFault>
+    pub(crate) fn let_go<R: Wait>(
+        &mut self,
+        rt: &R,
+        seat: &mut ClientSeat,
+    ) -> Result<(), SubmitFault>
         ensures gave { GaveBack self.old.held seat.old seat.new self.new.held result }
         ensures places { KeepsPlaces seat.old self.old.held seat.new self.new.held }
     {
@@ -74,7 +78,11 @@ impl Paging {
 
     /// Holds the committed end, once the place that is held is given back.
     #[tactic(auto, using(crate::proofs::HeldPlaces::places))]
-    pub(crate) fn renew<R: Wait>(&mut self, rt: &R, seat: &mut ClientSeat) -> Result<i64, SubmitFault>
+    pub(crate) fn renew<R: Wait>(
+        &mut self,
+        rt: &R,
+        seat: &mut ClientSeat,
+    ) -> Result<i64, SubmitFault>
         requires { HasPlaceLeft seat.old.held self.old.held }
         ensures renewed { Renewed self.old.held seat.old seat.new self.new.held result }
         ensures places { KeepsPlaces seat.old self.old.held seat.new self.new.held }

@@ -53,11 +53,7 @@ fn encode_sized(alloc: Global, correlation: &i32, reply: &Reply) -> Result<Vec<u
 }
 
 // The message of a reply with a page, behind its size.
-fn page_sized(
-    alloc: Global,
-    correlation: &i32,
-    described: &Described,
-) -> Result<Vec<u8>, NoMemory>
+fn page_sized(alloc: Global, correlation: &i32, described: &Described) -> Result<Vec<u8>, NoMemory>
     ensures bytes { let message = described_bytes correlation.now described.now in
         IfOk result (λ bytes. bytes.items ≡ number w32 (length message) ++ message) }
     ensures values { OnOk result (DescribedFits correlation.now described.now) }

@@ -85,7 +85,15 @@ fn serve_message<R: Wait, S: Source, K: Sink, T: Transcript>(
     match read_message(alloc, source, at) {
         Err(end) => Err(end),
         Ok((message, next)) => {
-            match answer_message(rt, alloc, seat, paging, message.as_slice(), sink, transcript) {
+            match answer_message(
+                rt,
+                alloc,
+                seat,
+                paging,
+                message.as_slice(),
+                sink,
+                transcript,
+            ) {
                 Err(end) => Err(end),
                 Ok(()) => Ok(next),
             }
