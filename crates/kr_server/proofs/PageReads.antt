@@ -1,5 +1,5 @@
 -- What the calls of one page leave of a client's seat.
-use Rattle.std.proofs.Common.{◌≡◌, ◌∙◌, ℤ, Result, Ok, Err, refl, ap, inl, inr}
+use Rattle.std.proofs.Common.{◌≡◌, ◌∙◌, ℤ, Result, Ok, Err, refl, ap, subst, inl, inr}
 use Rattle.std.specs.Prelude.{IfErr, IfOk, IsTrue, OnOk}
 use Rattle.kr_calls.specs.SeatList.{image_below, is_kept_in}
 use Rattle.kr_describe.specs.declared.steady.PageFault.{PageFault}
@@ -29,8 +29,13 @@ page_misses old new (Err (page_faults.Scan scans.NoMemory)) cause = inl cause
 page_misses old new (Err (page_faults.Loaded before later)) cause = inl cause
 page_misses old new (Err page_faults.NoMemory) cause = inl cause
 
-pub page_reads : (old new : Client) (result : Result Described PageFault) → Calls client_reading with_client_reading old new → Onward old.seen new.seen
+page_reads : (old new : Client) (result : Result Described PageFault) → Calls client_reading with_client_reading old new → Onward old.seen new.seen
     → HasPageCause (client_reading old) (client_reading new) result → ReadsRecords old new
 page_reads old new result calls onward cause = record { onward = onward; misses = page_misses old new result cause; same = reads_alone old new calls }
 
-pub ruleset page_reading = (page_reads)
+-- and what it tells
+pub page_read : (old new : Client) (own place : ℤ) → own ≡ place → (describe : Describe) (result : Result Described PageFault) → Calls client_reading with_client_reading old new → Onward old.seen new.seen
+    → HasPageCause (client_reading old) (client_reading new) result → IfOk result (λ d. d ≡ page (image_below own new.seen.list) describe)
+    → OnOk result (IsTrue (is_kept_in new.seen.list own)) → IfErr result (IsPageStop own old.seen.list new.seen.list) → PageRead old new place describe result
+page_read old new own place same describe result calls onward cause shows kept stop =
+    subst (λ (i : ℤ). PageRead old new i describe result) same (record { reads = page_reads old new result calls onward cause; shows = shows; kept = kept; stop = stop; cause = cause })

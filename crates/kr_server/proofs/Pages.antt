@@ -1,6 +1,6 @@
 -- A page that a client asks for, call by call.
 use Rattle.std.proofs.Common.{◌≡◌, ◌∙◌, ℕ, ℤ, Bool, true, false, List, [], ◌∷◌, ◌++◌, Result, Ok, Err, refl, sym, ap, subst, inl, inr}
-use Rattle.std.specs.Prelude.{IfSome, IsTrue, Option, Some, None}
+use Rattle.std.specs.Prelude.{IfOk, IfSome, IsTrue, Option, Some, None}
 use Rattle.std.specs.Option.{is_some, option_map}
 use Rattle.kr_base.specs.Causes.{Rose}
 use Rattle.kr_calls.specs.declared.pins.Pin.{Pin}
@@ -24,7 +24,7 @@ use Rattle.kr_server.specs.declared.end.ServeEnd.{ServeEnd}
 use Rattle.kr_server.specs.declared.end.ServeEnd.TheVariants as ends
 use Rattle.kr_server.specs.PagingCalls.{HoldsFor, HoldsOn, IsLost, IsPageEnd, IsPageExchange, IsPlaceRefused, KeepsFor, PinsOne, ReadsRecords, Unpins, no_pin, no_unpin}
 use Rattle.kr_server.specs.SeatCalls.{AsksForPages, Holder, holder}
-use Rattle.kr_server.specs.inner.Paging.{Begun, Finished, GaveBack, IsPinPlace, IsPageMade, IsNoPage, IsPlaceEnd, IsReadyFor, PageRead, Renewed, TookOne, TriedOnce, fault_end}
+use Rattle.kr_server.specs.inner.Paging.{Finished, GaveBack, IsPinPlace, IsPageMade, IsNoPage, IsPlaceEnd, IsReadyFor, PageRead, Renewed, TookOne, TriedOnce, fault_end}
 use Rattle.kr_server.specs.inner.Serving.{refusal_end}
 use Rattle.kr_server.proofs.LostPins.{is_lost, kept_on}
 use Rattle.kr_server.proofs.PageCalls.{asks_more, asks_nothing, asks_pin, asks_records, asks_same, asks_unpin}
@@ -54,6 +54,8 @@ renewed held old mid new between left (Err fault) g took = record { mid = mid; b
 
 pub asks_renewed : (held : Option ℤ) (old new : Client) (left : Option ℤ) (place : ℤ) → Renewed held old new left (Ok place) → AsksForPages old new
 asks_renewed held old new left place r = asks_more old r.0 new (asks_given held old r.0 None r.1) (asks_pin r.0 new (pin_at r.0.number new.ticket place) r.2.0)
+
+pub ruleset renewing = (given_end, renewed, asks_renewed)
 
 -- ---- the place for a page
 
@@ -112,14 +114,14 @@ module _ (cursor : Option LineKey) (old : Client) where
   first_pin None new own p = p
   first_pin (Some key) new own p = p
 
-  pub begun_first : (pin : Option Pin) (new : Client) (left : Option ℤ) (result : Result ℤ SubmitFault) → IsPinPlace None (holder old pin) → Renewed None old new left result → Begun cursor (holder old pin) new result
+  pub begun_first : (pin : Option Pin) (new : Client) (left : Option ℤ) (result : Result ℤ SubmitFault) → IsPinPlace None (holder old pin) → Renewed None old new left result → IfOk result (IsReadyFor cursor (holder old pin) new)
   begun_first pin new left (Ok place) held r =
       let own = pin_at r.0.number new.ticket place in
       let pinned : PinsOne old new own = subst (λ (c : Client). PinsOne c new own) r.1.1 r.2.0 in
       subst (λ (o : Option Pin). IsReadyFor cursor (holder old o) new place) (sym (no_pin_held pin held.is)) (begun_at None new place own refl pinned.kept (first_pin cursor new own pinned))
-  begun_first pin new left (Err fault) held r = r
+  begun_first pin new left (Err fault) held r = tt
 
-  pub begun_again : (pin : Option Pin) (before : ℤ) (new : Client) (left : Option ℤ) (result : Result ℤ SubmitFault) → is_some cursor ≡ false → IsPinPlace (Some before) (holder old pin) → Renewed (Some before) old new left result → Begun cursor (holder old pin) new result
+  pub begun_again : (pin : Option Pin) (before : ℤ) (new : Client) (left : Option ℤ) (result : Result ℤ SubmitFault) → is_some cursor ≡ false → IsPinPlace (Some before) (holder old pin) → Renewed (Some before) old new left result → IfOk result (IsReadyFor cursor (holder old pin) new)
   begun_again pin before new left (Ok place) is held r =
       let own = pins_place pin before held.is in
       let next = pin_at r.0.number new.ticket place in
@@ -128,7 +130,7 @@ module _ (cursor : Option LineKey) (old : Client) where
       let same : HoldsFor cursor pin old new next =
       subst (λ (o : Option LineKey). HoldsFor o pin old new next) (sym (no_cursor cursor is)) (subst (λ (o : Option Pin). HoldsFor None o old new next) (sym own.1) begins) in
       begun_at pin new place next refl r.2.0.kept same
-  begun_again pin before new left (Err fault) is held r = r
+  begun_again pin before new left (Err fault) is held r = tt
 
 -- ---- a page at it
 
@@ -211,6 +213,11 @@ place_end old new fault e = record { mid = e.mid; before = e.before; cause = ref
 
 pub no_page_behind : (old mid new : Client) (end : ServeEnd) → AsksForPages old mid → IsNoPage mid new end → IsNoPage old new end
 no_page_behind old mid new end first e = record { mid = e.mid; before = asks_more old mid e.mid first e.before; cause = e.cause }
+
+-- it is given back, or held on
+pub asks_finished : (goes_on : Bool) (held : Option ℤ) (old new : Client) (left : Option ℤ) → Finished goes_on held old new left (Ok tt) → AsksForPages old new
+asks_finished true held old new left f = asks_same old new f.1
+asks_finished false held old new left f = asks_given held old new left f
 
 not_finished : (goes_on : Bool) (held : Option ℤ) (old new : Client) (left : Option ℤ) (fault : SubmitFault) → Finished goes_on held old new left (Err fault) → IsPlaceEnd old new fault
 not_finished true held old new left fault f = let h = f.0 in absurd cc

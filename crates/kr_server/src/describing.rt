@@ -5,7 +5,7 @@ ghost use Rattle.std.specs.Option.{is_some};
 ghost use Rattle.kr_calls.specs.declared.pins.Pin.{Pin};
 ghost use Rattle.kr_pages.specs.declared.describe.LineKey.{LineKey};
 ghost use Rattle.kr_server.specs.SeatCalls.{AsksForPages, Holder, holder};
-ghost use Rattle.kr_server.specs.inner.Paging.{Begun, Finished, HasPlaceLeft, IsPinPlace, IsPageMade, IsNoPage, IsReadyFor, KeepsPlaces, PageRead, TriedOnce, fault_end};
+ghost use Rattle.kr_server.specs.inner.Paging.{Finished, HasPlaceLeft, HoldsNext, IsPlaceEnd, IsPinPlace, IsPageMade, IsNoPage, IsReadyFor, KeepsPlaces, PageRead, TriedOnce, fault_end};
 
 use crate::end::{ServeEnd, refusal_end};
 use crate::paging::Paging;
@@ -26,7 +26,6 @@ pub(crate) enum Tried {
 }
 
 // The page at the place.
-#[tactic(auto, using(crate::proofs::PageReads::page_reading))]
 fn page_at(
     alloc: Global,
     seat: &mut ClientSeat,
@@ -51,7 +50,7 @@ fn fault_end(fault: PageFault) -> Option<ServeEnd>
 }
 
 // The place for a page: the one that is held, where the walk goes on, and else the committed end.
-#[tactic(auto, using(crate::proofs::HeldPlaces::places))]
+#[tactic(auto, using(crate::proofs::HeldPlaces::places, crate::proofs::Pages::renewing))]
 fn begin<R: Wait>(
     rt: &R,
     seat: &mut ClientSeat,
@@ -61,7 +60,8 @@ fn begin<R: Wait>(
     requires { HasPlaceLeft seat.old.held paging.old.held }
     ensures begun { (cursor : Option LineKey) (pin : Option Pin) → goes_on ≡ is_some cursor
         → IsPinPlace paging.old.held (holder seat.old pin)
-        → Begun cursor (holder seat.old pin) seat.new result }
+        → IfOk result (IsReadyFor cursor (holder seat.old pin) seat.new) }
+    ensures none { IfErr result (IsPlaceEnd seat.old seat.new) }
     ensures left { IfOk result (λ place. paging.new.held ≡ Some place) }
     ensures asks { OnOk result (AsksForPages seat.old seat.new) }
     ensures places { KeepsPlaces seat.old paging.old.held seat.new paging.new.held }
@@ -106,8 +106,8 @@ fn describe_once<R: Wait>(
     requires room { HasPlaceLeft seat.old.held paging.old.held }
     ensures tried { IfOk result (λ tried. (old : Holder)
         → IsReadyFor describe.now.cursor old seat.old place
-        → TriedOnce old seat.new paging.new.held place
-        describe.now tried) }
+        → TriedOnce old seat.new paging.new.held place describe.now tried) }
+    ensures next { IfOk result (HoldsNext paging.new.held) }
     ensures none { IfErr result (λ end. IsNoPage seat.old seat.new end) }
     ensures asks { OnOk result (AsksForPages seat.old seat.new) }
     ensures places { KeepsPlaces seat.old paging.old.held seat.new paging.new.held }

@@ -71,13 +71,17 @@ impl Paging {
         ensures took { TookOne seat.old seat.new self.new.held result }
         ensures places { KeepsPlaces seat.old self.old.held seat.new self.new.held }
     {
-        let place = pin_end(rt, seat)?;
-        self.held = Some(place);
-        Ok(place)
+        match pin_end(rt, seat) {
+            Err(fault) => Err(fault),
+            Ok(place) => {
+                self.held = Some(place);
+                Ok(place)
+            }
+        }
     }
 
     /// Holds the committed end, once the place that is held is given back.
-    #[tactic(auto, using(crate::proofs::HeldPlaces::places))]
+    #[tactic(auto, using(crate::proofs::HeldPlaces::places, crate::proofs::Pages::renewing))]
     pub(crate) fn renew<R: Wait>(
         &mut self,
         rt: &R,
@@ -87,7 +91,9 @@ impl Paging {
         ensures renewed { Renewed self.old.held seat.old seat.new self.new.held result }
         ensures places { KeepsPlaces seat.old self.old.held seat.new self.new.held }
     {
-        self.let_go(rt, seat)?;
-        self.take(rt, seat)
+        match self.let_go(rt, seat) {
+            Err(fault) => Err(fault),
+            Ok(()) => self.take(rt, seat),
+        }
     }
 }

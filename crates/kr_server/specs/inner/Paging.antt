@@ -105,15 +105,15 @@ pub record IsNoPage (old new : Client) (end : ServeEnd) : Type 0 where
   pub before : AsksForPages old mid
   pub cause : IsPageEnd mid new end
 
--- the place for a page is there, or calls for it ended
-abbrev pub Begun : Option LineKey → Holder → Client → Result ℤ SubmitFault → Type 0
-Begun cursor old seat (Ok place) = IsReadyFor cursor old seat place
-Begun cursor old seat (Err fault) = IsPlaceEnd old.seat seat fault
-
 -- the page is made at the place, or another place is there for it, or calls ended
 abbrev pub TriedOnce : Holder → Client → Option ℤ → ℤ → Describe → Tried → Type 0
 TriedOnce old seat left place describe (trials.Page described) = IsPageMade old seat left place describe described
-TriedOnce old seat left place describe (trials.Lost next) = IsReadyFor describe.cursor old seat next × (left ≡ Some next)
+TriedOnce old seat left place describe (trials.Lost next) = IsReadyFor describe.cursor old seat next
+
+-- the other place is held
+abbrev pub HoldsNext : Option ℤ → Tried → Type 0
+HoldsNext left (trials.Page described) = Unit {0}
+HoldsNext left (trials.Lost next) = left ≡ Some next
 
 -- what a read of a page leaves
 pub record PageRead (old new : Client) (place : ℤ) (describe : Describe) (result : Result Described PageFault) : Type 0 where
