@@ -1,6 +1,6 @@
 -- A place that isn't kept, or whose image may be another, has lost its pin.
 use Rattle.std.proofs.Common.{◌≡◌, ◌∙◌, ◌⊎◌, inl, inr, ℕ, ℤ, ◌-◌, ◌^◌, Bool, true, false, cond, not, List, [], ◌∷◌, ◌++◌, fold, refl, sym, ap, subst, append_assoc, arith}
-use Rattle.std.specs.Prelude.{◌||◌, IsTrue, int_lt}
+use Rattle.std.specs.Prelude.{None, ◌||◌, IsTrue, int_lt}
 use Rattle.std.specs.List.{AllByRecursion, list_any}
 use Rattle.std.specs.Ordering.{int_eq}
 use Rattle.std.proofs.lemmas.Bool.Decides.{Decides-int_eq}
@@ -81,9 +81,9 @@ same_loads pin n [] none = refl
 same_loads pin n (e ∷ es) none =
     ap (λ b. fold loads_with (cond b (raised n) n) es) (no_load pin e none.0) ∙ same_loads pin n es none.1
 
-later_part : {P : Entry → Type 0} (xs ys : List Entry) → AllByRecursion P (xs ++ ys) → AllByRecursion P ys
-later_part [] ys all = all
-later_part (x ∷ xs) ys all = later_part xs ys all.1
+later_part : (P : Entry → Type 0) (xs ys : List Entry) → AllByRecursion P (xs ++ ys) → AllByRecursion P ys
+later_part P [] ys all = all
+later_part P (x ∷ xs) ys all = later_part P xs ys all.1
 
 not_kept : (b : Bool) → IsTrue (not b) → IsTrue b → ⊥
 not_kept true denied held = cc
@@ -127,7 +127,8 @@ module _ (pin : Pin) (old new : List Entry) (kept : IsKeptFrom old pin) (first :
 
   same_behind : AllByRecursion (λ e. unpins pin e ≡ false) (kept.rest ++ (g.0 ++ h.0)) → loads_of new ≡ loads_of first
   same_behind none =
-      ap loads_of h.1 ∙ fold-append loads_with 0 first h.0 ∙ same_loads pin (loads_of first) h.0 (later_part g.0 h.0 (later_part kept.rest (g.0 ++ h.0) none))
+      let P : Entry → Type 0 = λ e. unpins pin e ≡ false in
+      ap loads_of h.1 ∙ fold-append loads_with 0 first h.0 ∙ same_loads pin (loads_of first) h.0 (later_part P g.0 h.0 (later_part P kept.rest (g.0 ++ h.0) none))
 
   loaded : MayDiffer first new → IsLost pin new
   loaded (inl differs) = lost_where pin old new kept through (λ none. absurd (differs (same_behind none)))
