@@ -1,11 +1,12 @@
 -- One message: what came of the seat for it, and how it is answered.
 use Rattle.std.proofs.Common.{◌≡◌, ◌∙◌, ◌⊎◌, ℕ, ℤ, List, [], ◌∷◌, ◌++◌, take, Result, Ok, Err, refl, sym, ap, subst, inl, inr}
-use Rattle.std.specs.Prelude.{IfSome, IsErrOf, Option, Some, None}
+use Rattle.std.specs.Prelude.{IfOk, IfSome, IsErrOf, Option, Some, None}
 use Rattle.std.specs.Io.KnownBytes.{Appends}
 use Rattle.std.proofs.KnownBytes.{Appends-nil}
 use Rattle.kr_base.specs.FailedPuts.{AppendsFront}
 use Rattle.kr_calls.specs.declared.pins.Pin.{Pin}
 use Rattle.kr_pages.specs.declared.describe.Describe.{Describe}
+use Rattle.kr_pages.specs.declared.describe.Described.{Described}
 use Rattle.kr_pages.specs.declared.describe.DescribeAsk.TheVariants as describes
 use Rattle.kr_pages.specs.Messages.{IsDescribeAsk}
 use Rattle.kr_view.specs.Seats.{Onward}
@@ -14,11 +15,12 @@ use Rattle.kr_shared.specs.Grants.{IsKeptFrom}
 use Rattle.kr_server.specs.declared.end.ServeEnd.{ServeEnd}
 use Rattle.kr_server.specs.declared.end.ServeEnd.TheVariants as ends
 use Rattle.kr_server.specs.declared.exchange.Exchange.{Exchange}
+use Rattle.kr_server.specs.declared.exchange.Exchange.TheVariants as exchanges
 use Rattle.kr_server.specs.Exchanges.{IsAskedFor, SizedReplyFits, sized_reply}
 use Rattle.kr_server.specs.SeatCalls.{Holder, IsExchanged, IsRefusedPage, IsWithoutMemory, for_ask, for_exchange, for_page, holder}
 use Rattle.kr_server.specs.Served.{Connection, connection}
 use Rattle.kr_server.specs.Told.{TellsMore}
-use Rattle.kr_server.specs.inner.Paging.{IsPinPlace, IsNoPage}
+use Rattle.kr_server.specs.inner.Paging.{IsNoPage, IsPageMade, IsPinPlace}
 use Rattle.kr_server.specs.inner.Serving.{CameOf, IsAnsweredBy, IsAnsweredInPart, IsNotAnswered, IsNotExchanged, IsSilent}
 use Rattle.kr_server.proofs.Lists.{tells_none}
 use Rattle.kr_server.proofs.LostPins.{kept_on}
@@ -34,6 +36,15 @@ held_on held old new pin on h = record { is = h.is; kept = some_kept_on old new 
 
 pub came_same : (held : Option ℤ) (old new : Client) (pin : Option Pin) (x : Exchange) → Onward old.seen new.seen → IsPinPlace held (holder old pin) → IsExchanged (holder old pin) (holder new pin) x → CameOf (holder old pin) new held x
 came_same held old new pin x on h is = record { left = pin; exchanged = is; is_held = held_on held old new pin on h }
+
+pub all_came_same : (held : Option ℤ) (old new : Client) (result : Result Exchange ServeEnd) → Onward old.seen new.seen → IfOk result (λ x. (pin : Option Pin) → IsExchanged (holder old pin) (holder new pin) x)
+    → IfOk result (λ x. (pin : Option Pin) → IsPinPlace held (holder old pin) → CameOf (holder old pin) new held x)
+all_came_same held old new (Ok x) on all = λ pin is. came_same held old new pin x on is (all pin)
+all_came_same held old new (Err end) on all = tt
+
+pub page_came : (held : Option ℤ) (old : Holder) (new : Client) (correlation place : ℤ) (describe : Describe) (described : Described) → IsPageMade old new held place describe described
+    → CameOf old new held (exchanges.Page correlation place describe described)
+page_came held old new correlation place describe described made = record { left = made.pin; exchanged = made.paged; is_held = made.is_held }
 
 -- ---- a page that isn't there
 
