@@ -8,7 +8,11 @@ use Rattle.kr_calls.specs.declared.pins.Pin.{Pin}
 use Rattle.kr_pages.specs.declared.describe.Describe.{Describe}
 use Rattle.kr_pages.specs.declared.describe.Described.{Described}
 use Rattle.kr_pages.specs.declared.describe.DescribeAsk.TheVariants as describes
-use Rattle.kr_pages.specs.Messages.{IsDescribeAsk}
+use Rattle.kr_calls.specs.declared.calls.Ask.TheVariants as asks
+use Rattle.kr_calls.specs.declared.calls.AskFault.{AskFault}
+use Rattle.kr_pages.specs.Messages.{IsDescribeAsk, IsDescribeKey}
+use Rattle.kr_req.specs.Messages.{IsAsk}
+use Rattle.kr_model.specs.Outputs.{error_of}
 use Rattle.kr_view.specs.Seats.{Onward}
 use Rattle.kr_shared.specs.Clients.{Client}
 use Rattle.kr_shared.specs.Grants.{IsKeptFrom}
@@ -16,7 +20,7 @@ use Rattle.kr_server.specs.declared.end.ServeEnd.{ServeEnd}
 use Rattle.kr_server.specs.declared.end.ServeEnd.TheVariants as ends
 use Rattle.kr_server.specs.declared.exchange.Exchange.{Exchange}
 use Rattle.kr_server.specs.declared.exchange.Exchange.TheVariants as exchanges
-use Rattle.kr_server.specs.Exchanges.{IsAskedFor, SizedReplyFits, sized_reply}
+use Rattle.kr_server.specs.Exchanges.{IsAskedFor, IsBareAsk, no_call, SizedReplyFits, sized_reply}
 use Rattle.kr_server.specs.SeatCalls.{Holder, IsExchanged, IsRefusedPage, IsWithoutMemory, for_ask, for_exchange, for_page, holder}
 use Rattle.kr_server.specs.Served.{Connection, connection}
 use Rattle.kr_server.specs.Told.{TellsMore}
@@ -45,6 +49,11 @@ all_came_same held old new (Err end) on all = tt
 pub page_came : (held : Option ℤ) (old : Holder) (new : Client) (correlation place : ℤ) (describe : Describe) (described : Described) → IsPageMade old new held place describe described
     → CameOf old new held (exchanges.Page correlation place describe described)
 page_came held old new correlation place describe described made = record { left = made.pin; exchanged = made.paged; is_held = made.is_held }
+
+-- ---- a message that is no call
+
+pub no_call_asked : (correlation error : ℤ) (message : List ℕ) (fault : AskFault) → (IsDescribeKey message → ⊥) → error ≡ error_of fault → IsAsk (asks.Bare correlation fault) message → IsBareAsk correlation error message
+no_call_asked correlation error message fault other is asked = no_call other fault is asked
 
 -- ---- a page that isn't there
 

@@ -94,6 +94,7 @@ fn exchange_page<R: Wait>(
 }
 
 // What is no page.
+#[tactic(auto, using(crate::proofs::Exchanged::no_call_asked))]
 fn exchange_call<R: Wait>(
     rt: &R,
     alloc: Global,

@@ -1,4 +1,5 @@
 use Rattle.std.proofs.Common.{◌∙◌, ℤ, Some, ap, subst, sym, w64}
+use Rattle.std.proofs.Math.Facts.{sfits_to_z}
 use Rattle.std.proofs.lemmas.Int.{to_z-of_z}
 use Rattle.kr_server.specs.SeatCalls.{holder}
 use Rattle.kr_server.specs.inner.Paging.{IsReadyFor}
@@ -12,7 +13,7 @@ returns-in-Err-clause-none g c = rw c.refusal_end.ensures (place_end c.args.seat
 
 pub loop-preserved : goal.loop-preserved
 loop-preserved g c =
-    let now = to_z-of_z w64 c.loop.place search in
+    let now = to_z-of_z w64 c.loop.place (rw c.loop.place-is (sfits_to_z c.loop.auto.place-fits)) in
     let next = to_z-of_z w64 c.in-Ok-Lost.next search in
     let e = c.in-Ok-Lost.ensures in
     record {
