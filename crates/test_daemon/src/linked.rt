@@ -78,36 +78,41 @@ where
     Ok(served)
 }
 
+// The daemon's connection to its quorum, and the same to be read from.
+fn halves(rt: HostRuntime, quorum: &TcpListener) -> io::Result<(TcpStream, TcpStream)> {
+    let there = TcpStream::connect(&rt, quorum.local_addr()?)?;
+    let back = there.try_clone()?;
+    Ok((there, back))
+}
+
+// The clients, each with a value of its own.
+fn spawn_askers(rt: HostRuntime, address: SocketAddr) -> Result<Vec<JoinHandle<bool>>, NoMemory> {
+    let mut askers = Vec::new(rt.alloc());
+    for number in 0..CLIENTS {
+        let digit = b'2'.saturating_add(number);
+        match thread::spawn(&rt, move || is_served(&rt, address, digit).unwrap_or(false)) {
+            Ok(asker) => askers.push(asker)?,
+            Err(_) => return Err(NoMemory),
+        }
+    }
+    Ok(askers)
+}
+
 #[test]
 fn three_clients_are_served_over_a_link(rt: HostRuntime) -> Result<(), Fail> {
     let alloc = rt.alloc();
     let quorum = TcpListener::bind(&rt, "127.0.0.1:0")?;
-    let there = TcpStream::connect(&rt, quorum.local_addr()?)?;
-    let back = there.try_clone()?;
+    let halves = halves(rt, &quorum)?;
     let listener = TcpListener::bind(&rt, "127.0.0.1:0")?;
     let address = listener.local_addr()?;
     let leading = thread::spawn(&rt, move || be_quorum(alloc, &quorum))
         .ok()
         .ok_or("a thread")?;
-    let mut askers = Vec::new(alloc);
-    for number in 0..CLIENTS {
-        let digit = b'2'.saturating_add(number);
-        let asker = thread::spawn(&rt, move || is_served(&rt, address, digit).unwrap_or(false))
-            .ok()
-            .ok_or("a thread")?;
-        askers.push(asker)?;
-    }
+    let askers = spawn_askers(rt, address)?;
     let options = options_of(1, Text::from_str(alloc, "c1")?, 7);
     let (mut worker, link, seats) = open_seats(&rt, alloc, options, 4).ok().ok_or("seats")?;
-    let served = serve(
-        rt,
-        alloc,
-        listener,
-        address,
-        (there, back),
-        (&mut worker, link, seats),
-        askers,
-    );
+    let opened = (&mut worker, link, seats);
+    let served = serve(rt, alloc, listener, address, halves, opened, askers);
     worker.close(&rt);
     assert!(rt; served?);
     assert!(rt; leading.join(&rt));

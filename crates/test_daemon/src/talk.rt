@@ -93,15 +93,25 @@ fn setting_of(alloc: Global, fields: &str) -> Result<Setting, RowFault> {
 // Node, salt, length of a session, partitions, factor, minimum, and the cluster's id.
 fn options_of(alloc: Global, fields: &str) -> Result<Options, RowFault> {
     let mut fields = Fields::new(fields);
+    let (node, salt, session_ms) = whose(&mut fields)?;
+    let (partitions, factor, minimum) = defaults(&mut fields)?;
     Ok(Options {
-        node: fields.number()?,
-        salt: fields.number()?,
-        session_ms: fields.number()?,
-        partitions: fields.number()?,
-        factor: fields.number()?,
-        minimum: fields.number()?,
+        node,
+        salt,
+        session_ms,
+        partitions,
+        factor,
+        minimum,
         cluster: Text::from_str(alloc, fields.word()?)?,
     })
+}
+
+fn whose(fields: &mut Fields) -> Result<(i32, u64, u32), RowFault> {
+    Ok((fields.number()?, fields.number()?, fields.number()?))
+}
+
+fn defaults(fields: &mut Fields) -> Result<(i32, i16, i32), RowFault> {
+    Ok((fields.number()?, fields.number()?, fields.number()?))
 }
 
 // A controller may be started with these.

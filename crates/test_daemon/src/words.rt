@@ -66,14 +66,22 @@ fn line_with_cluster(alloc: Global, len: usize) -> Result<String, AllocError> {
     Ok(line)
 }
 
+fn is_taken(alloc: Global, line: &str) -> Result<bool, AllocError> {
+    Ok(read(alloc, line)?.is_ok())
+}
+
+fn is_refused(alloc: Global, line: &str) -> Result<bool, AllocError> {
+    Ok(matches!(read(alloc, line)?, Err(SettingsFault::Refused)))
+}
+
 #[test]
 fn lines_that_are_taken(rt: HostRuntime) -> Result<(), Fail> {
     let alloc = rt.alloc();
     for line in TAKEN {
-        assert!(rt; read(alloc, line)?.is_ok());
+        assert!(rt; is_taken(alloc, line)?);
     }
     let longest = line_with_cluster(alloc, LONGEST_CLUSTER)?;
-    assert!(rt; read(alloc, longest.as_str())?.is_ok());
+    assert!(rt; is_taken(alloc, longest.as_str())?);
     Ok(())
 }
 
@@ -81,27 +89,79 @@ fn lines_that_are_taken(rt: HostRuntime) -> Result<(), Fail> {
 fn lines_that_are_refused(rt: HostRuntime) -> Result<(), Fail> {
     let alloc = rt.alloc();
     for line in REFUSED {
-        assert_eq!(rt; read(alloc, line)?.err(), Some(SettingsFault::Refused));
+        assert!(rt; is_refused(alloc, line)?);
     }
     let longer = line_with_cluster(alloc, LONGEST_CLUSTER + 1)?;
-    assert_eq!(rt;
-        read(alloc, longer.as_str())?.err(),
-        Some(SettingsFault::Refused)
-    );
+    assert!(rt; is_refused(alloc, longer.as_str())?);
     Ok(())
+}
+
+// The settings of a line.
+struct Said {
+    listen: &'static str,
+    node: i32,
+    cluster: &'static str,
+    salt: u64,
+    link: Option<&'static str>,
+    clients: u32,
+}
+
+// Those of the first lines that the daemon takes.
+const SAID: [Said; 3] = [
+    Said {
+        listen: "a",
+        node: 1,
+        cluster: "c",
+        salt: 7,
+        link: None,
+        clients: 8,
+    },
+    Said {
+        listen: "a",
+        node: 0,
+        cluster: "c",
+        salt: 0,
+        link: Some("b"),
+        clients: 1,
+    },
+    Said {
+        listen: "a",
+        node: 2147483647,
+        cluster: "c",
+        salt: u64::MAX,
+        link: None,
+        clients: 63,
+    },
+];
+
+fn link_of(settings: &Settings) -> Option<&str> {
+    match &settings.link {
+        Some(link) => Some(link.as_str()),
+        None => None,
+    }
+}
+
+fn are_said(settings: &Settings, said: &Said) -> bool {
+    settings.listen.as_str() == said.listen
+        && settings.node == said.node
+        && settings.cluster.as_str() == said.cluster
+        && settings.salt == said.salt
+        && link_of(settings) == said.link
+        && settings.clients == said.clients
+}
+
+fn is_said(alloc: Global, line: &str, said: &Said) -> Result<bool, AllocError> {
+    match &read(alloc, line)? {
+        Ok(settings) => Ok(are_said(settings, said)),
+        Err(_) => Ok(false),
+    }
 }
 
 #[test]
 fn what_the_words_say(rt: HostRuntime) -> Result<(), Fail> {
-    let alloc = rt.alloc();
-    let least = read(alloc, TAKEN[0])?.ok().ok_or("settings")?;
-    assert!(rt; least.listen.as_str() == "a" && least.cluster.as_str() == "c");
-    assert!(rt; least.node == 1 && least.salt == 7 && least.clients == 8);
-    assert!(rt; least.link.is_none());
-    let most = read(alloc, TAKEN[2])?.ok().ok_or("settings")?;
-    assert!(rt; most.node == 2147483647 && most.salt == u64::MAX && most.clients == 63);
-    let linked = read(alloc, TAKEN[1])?.ok().ok_or("settings")?;
-    assert!(rt; linked.link.is_some_and(|link| link.as_str() == "b"));
+    for (line, said) in TAKEN.iter().zip(&SAID) {
+        assert!(rt; is_said(rt.alloc(), line, said)?);
+    }
     Ok(())
 }
 
@@ -117,7 +177,7 @@ fn help_is_shown_where_it_is_asked_for(rt: HostRuntime) -> Result<(), Fail> {
         (REFUSED[0], false),
     ] {
         let words = words_of(alloc, line)?;
-        assert_eq!(rt; help(alloc, &words).is_some(), is_shown);
+        assert!(rt; help(alloc, &words).is_some() == is_shown);
     }
     Ok(())
 }

@@ -77,16 +77,21 @@ pub(crate) fn topic(alloc: Global, name: &str) -> Result<Call, NoMemory>
     })
 }
 
+fn operation(alloc: Global, value: u64) -> Result<ConfigOperation, NoMemory> {
+    let value = format!(in alloc; "{value}")?;
+    Ok(ConfigOperation {
+        name: Text::from_str(alloc, "min.insync.replicas")?,
+        operation: 0,
+        value: Some(Text::from_string(value)),
+    })
+}
+
 // The minimum of replicas in sync, for all topics.
 pub(crate) fn setting(alloc: Global, value: u64) -> Result<Call, NoMemory>
     ensures { IfOk result (λ call. IsTrue (not (is_read call.request))) }
 {
     let mut configs = Rows::new(alloc);
-    configs.push(ConfigOperation {
-        name: Text::from_str(alloc, "min.insync.replicas")?,
-        operation: 0,
-        value: Some(Text::from_string(format!(in alloc; "{value}")?)),
-    })?;
+    configs.push(operation(alloc, value)?)?;
     let mut resources = Rows::new(alloc);
     resources.push(ConfigResource {
         kind: 4,

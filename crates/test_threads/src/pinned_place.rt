@@ -59,15 +59,20 @@ impl PinnedPlace {
         ))
     }
 
+    // Seven records at the pinned place and nine at the end, the topic among these alone.
+    fn has_records(&self, seat: &mut ClientSeat) -> Result<bool, NoMemory> {
+        let before = self.has_topic(seat, 12, "u")?;
+        let after = self.has_topic(seat, 14, "u")?;
+        let seven = count_records(seat, 12) == Some(7);
+        let nine = count_records(seat, 14) == Some(9);
+        Ok(!before && after && seven && nine && seat.loads() == 0)
+    }
+
     fn is_kept<R: Wait>(&self, rt: &R, seat: &mut ClientSeat) -> Result<bool, NoMemory> {
         let pinned = is_set_up(rt, self.alloc, seat)? && seat.pin(rt) == Ok(12);
         let written = is_at(rt, seat, &topic(self.alloc, "u")?, 12);
         let both = shows(seat, 12, &["t"]) && shows(seat, 14, &["t", "u"]);
-        let records = count_records(seat, 12) == Some(7)
-            && count_records(seat, 14) == Some(9)
-            && !self.has_topic(seat, 12, "u")?
-            && self.has_topic(seat, 14, "u")?
-            && seat.loads() == 0;
+        let records = self.has_records(seat)?;
         let given_back = seat.unpin(rt, 12).is_ok() && seat.pins() == 0;
         let more = is_at(rt, seat, &topic(self.alloc, "v")?, 14);
         Ok(pinned && written && both && records && given_back && more && is_gone(seat))
