@@ -1,7 +1,7 @@
 //! Readers are answered while the worker is held.
 
 use crate::calls::{heartbeat, place_and_error, registration, topic, topics_seen};
-use crate::threads::{Part, Signs, TellingQuorum, serve};
+use crate::threads::{Part, serve_and_commit};
 use kr_base::{Gate, NoMemory};
 use kr_shared::ClientSeat;
 use std::alloc::Global;
@@ -95,8 +95,6 @@ impl HeldWorker {
 #[test]
 fn readers_are_answered_while_the_worker_is_held(rt: HostRuntime) -> Result<(), Fail> {
     let alloc = rt.alloc();
-    let signs = Signs::new();
-    let mut quorum = TellingQuorum::new(alloc, Vec::new(alloc), &signs)?;
     let part = HeldWorker {
         alloc,
         reached: AtomicU64::new(0),
@@ -106,7 +104,7 @@ fn readers_are_answered_while_the_worker_is_held(rt: HostRuntime) -> Result<(), 
         signs: &part,
         held: false,
     };
-    assert!(rt; serve(&rt, alloc, 3, &mut gate, &mut quorum, &part)?);
+    assert!(rt; serve_and_commit(&rt, alloc, 3, &mut gate, &part)?);
     assert!(rt; gate.held);
     Ok(())
 }

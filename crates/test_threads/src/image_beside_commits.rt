@@ -2,7 +2,7 @@
 
 use crate::calls::topic;
 use crate::setup::{is_at, is_set_up};
-use crate::threads::{Part, Signs, TellingQuorum, serve};
+use crate::threads::{Part, serve_and_commit};
 use kr_base::{Failed, MemorySink, NoMemory, OpenGate, Sink};
 use kr_shared::{Bell, ClientSeat, write_image};
 use std::alloc::Global;
@@ -138,14 +138,12 @@ impl<R: Wait> Sink for WaitingSink<'_, R> {
 #[test]
 fn an_image_is_written_beside_commits(rt: HostRuntime) -> Result<(), Fail> {
     let alloc = rt.alloc();
-    let signs = Signs::new();
-    let mut quorum = TellingQuorum::new(alloc, Vec::new(alloc), &signs)?;
     let part = BesideCommits {
         alloc,
         is_begun: AtomicBool::new(false),
         is_written: AtomicBool::new(false),
         news: Bell::new(),
     };
-    assert!(rt; serve(&rt, alloc, 2, &mut OpenGate, &mut quorum, &part)?);
+    assert!(rt; serve_and_commit(&rt, alloc, 2, &mut OpenGate, &part)?);
     Ok(())
 }

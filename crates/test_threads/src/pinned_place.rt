@@ -2,7 +2,7 @@
 
 use crate::calls::{setting, topic};
 use crate::setup::{is_at, is_set_up};
-use crate::threads::{Part, Signs, TellingQuorum, serve};
+use crate::threads::{Part, serve_and_commit};
 use kr_base::{NoMemory, OpenGate};
 use kr_defs::{Record, Text};
 use kr_shared::{ClientSeat, MOST_PLACES, PinFault};
@@ -93,10 +93,8 @@ fn is_gone(seat: &mut ClientSeat) -> bool {
 #[test]
 fn a_pinned_place_is_kept(rt: HostRuntime) -> Result<(), Fail> {
     let alloc = rt.alloc();
-    let signs = Signs::new();
-    let mut quorum = TellingQuorum::new(alloc, Vec::new(alloc), &signs)?;
     let part = PinnedPlace { alloc };
-    assert!(rt; serve(&rt, alloc, 1, &mut OpenGate, &mut quorum, &part)?);
+    assert!(rt; serve_and_commit(&rt, alloc, 1, &mut OpenGate, &part)?);
     Ok(())
 }
 
@@ -135,9 +133,7 @@ impl SixteenPlaces {
 #[test]
 fn a_seat_holds_sixteen_places(rt: HostRuntime) -> Result<(), Fail> {
     let alloc = rt.alloc();
-    let signs = Signs::new();
-    let mut quorum = TellingQuorum::new(alloc, Vec::new(alloc), &signs)?;
     let part = SixteenPlaces { alloc };
-    assert!(rt; serve(&rt, alloc, 1, &mut OpenGate, &mut quorum, &part)?);
+    assert!(rt; serve_and_commit(&rt, alloc, 1, &mut OpenGate, &part)?);
     Ok(())
 }

@@ -33,6 +33,6 @@ fn a_stop_ends_the_writes_that_wait(rt: HostRuntime) -> Result<(), Fail> {
     let mut quorum = TellingQuorum::stopped_after(alloc, 3, &signs)?;
     let part = EndedWrites { alloc };
     assert!(rt; serve(&rt, alloc, 3, &mut OpenGate, &mut quorum, &part)?);
-    assert_eq!(rt; quorum.kept.calls(), 3);
+    assert!(rt; quorum.kept.calls() == 3);
     Ok(())
 }

@@ -255,3 +255,18 @@ pub(crate) fn serve<R: Threads + Wait + Sync, G: Gate, P: Part + Sync>(
     worker.close(rt);
     Ok(leads && played)
 }
+
+// The same over a quorum that takes each append, and commits it.
+pub(crate) fn serve_and_commit<R: Threads + Wait + Sync, G: Gate, P: Part + Sync>(
+    rt: &R,
+    alloc: Global,
+    clients: u32,
+    gate: &mut G,
+    part: &P,
+) -> Result<bool, NoMemory>
+    requires { (0 < clients) × (clients ≤ 64) }
+{
+    let signs = Signs::new();
+    let mut quorum = TellingQuorum::new(alloc, Vec::new(alloc), &signs)?;
+    serve(rt, alloc, clients, gate, &mut quorum, part)
+}
