@@ -210,5 +210,5 @@ fn look<R: Threads + Sync>(
         seats,
         &|seat: ReaderSeat| question.is_answered(seat, rounds),
     )?;
-    Ok(answered.len() == threads && answered.iter().all(|one| *one))
+    Ok(answered.len() == threads && !answered.contains(&false))
 }

@@ -116,11 +116,16 @@ fn is_refused_again(alloc: Global, mut stream: &TcpStream) -> io::Result<bool> {
     Ok(kind == REFUSAL && told.as_slice() == REFUSED_AGAIN.as_slice())
 }
 
+// The batches up to the place of an image.
+fn log_below<'a>(seen: &'a Seen, image: &[u8]) -> Option<&'a [u8]> {
+    let place = image.get(7)?;
+    let end = seen.ends.get(*place as usize)?;
+    seen.log.get(..*end)
+}
+
 // An image is the fold of the batches up to its place, byte for byte.
 fn is_folded(alloc: Global, seen: &Seen, image: &[u8]) -> Result<bool, NoMemory> {
-    let place = image.get(7).map_or(0, |place| *place as usize);
-    let end = seen.ends.get(place).map_or(0, |end| *end);
-    let Some(log) = seen.log.get(..end) else {
+    let Some(log) = log_below(seen, image) else {
         return Ok(false);
     };
     let mut input = MemorySource::new(log.to_vec(alloc)?, Vec::new(alloc));

@@ -48,7 +48,11 @@ pub(crate) const KINDS: [(Kind, &str); 18] = [
 impl Kind {
     /// The kind whose rows begin with this word.
     pub(crate) fn of(word: &str) -> Option<Kind> {
-        let named = KINDS.iter().find(|named| named.1 == word)?;
-        Some(named.0)
+        for (kind, name) in &KINDS {
+            if *name == word {
+                return Some(*kind);
+            }
+        }
+        None
     }
 }

@@ -152,7 +152,10 @@ pub(crate) fn place_and_error<R: Wait>(
     match seat.submit(rt, call) {
         Ok(answered) => {
             let answered = answered.get();
-            error_of(answered).map(|error| (answered.place, error))
+            match error_of(answered) {
+                Some(error) => Some((answered.place, error)),
+                None => None,
+            }
         }
         Err(_) => None,
     }

@@ -33,12 +33,17 @@ fn shows(seat: &mut ClientSeat, place: i64, names: &[&str]) -> bool {
     let Ok(page) = seat.scan(place, None, 10) else {
         return false;
     };
-    let rows = page.as_slice();
+    are_first_of(page.as_slice(), names)
+}
+
+// The rows are of partition 0 of each of these topics.
+fn are_first_of(rows: &[PageRow], names: &[&str]) -> bool {
+    for (row, name) in rows.iter().zip(names) {
+        if !is_first_of(row, name) {
+            return false;
+        }
+    }
     rows.len() == names.len()
-        && rows
-            .iter()
-            .zip(names)
-            .all(|(row, name)| is_first_of(row, name))
 }
 
 // How many records there are at the place, of ten at most.

@@ -159,7 +159,7 @@ fn play_all<R: Threads + Wait + Sync, P: Part + Sync>(
     signs.done.store(true, Ordering::SeqCst);
     signs.news.ring(rt);
     match played {
-        Ok(played) => played.as_slice().iter().all(|fine| *fine),
+        Ok(played) => !played.contains(&false),
         Err(_) => false,
     }
 }
