@@ -1,8 +1,8 @@
 //! A seat's place is kept while it writes, until the seat gives it back.
 
-use crate::calls::{setting, topic};
-use crate::setup::{is_at, is_set_up};
-use crate::threads::{Part, serve_and_commit};
+use crate::calls::{Write, is_at};
+use crate::setup::is_set_up;
+use crate::threads::{COMMITS, Part, serve};
 use kr_base::{NoMemory, OpenGate};
 use kr_defs::{Record, Text};
 use kr_shared::{ClientSeat, MOST_PLACES, PinFault};
@@ -74,12 +74,12 @@ impl PinnedPlace {
     }
 
     fn is_kept<R: Wait>(&self, rt: &R, seat: &mut ClientSeat) -> Result<bool, NoMemory> {
-        let pinned = is_set_up(rt, self.alloc, seat)? && seat.pin(rt) == Ok(12);
-        let written = is_at(rt, seat, &topic(self.alloc, "u")?, 12);
+        let pinned = is_set_up(rt, self.alloc, seat) && seat.pin(rt) == Ok(12);
+        let written = is_at(rt, self.alloc, seat, Write::Topic("u"), 12);
         let both = shows(seat, 12, &["t"]) && shows(seat, 14, &["t", "u"]);
         let records = self.has_records(seat)?;
         let given_back = seat.unpin(rt, 12).is_ok() && seat.pins() == 0;
-        let more = is_at(rt, seat, &topic(self.alloc, "v")?, 14);
+        let more = is_at(rt, self.alloc, seat, Write::Topic("v"), 14);
         Ok(pinned && written && both && records && given_back && more && is_gone(seat))
     }
 }
@@ -99,7 +99,7 @@ fn is_gone(seat: &mut ClientSeat) -> bool {
 fn a_pinned_place_is_kept(rt: HostRuntime) -> Result<(), Fail> {
     let alloc = rt.alloc();
     let part = PinnedPlace { alloc };
-    assert!(rt; serve_and_commit(&rt, alloc, 1, &mut OpenGate, &part)?);
+    assert!(rt; serve(&rt, alloc, 1, &mut OpenGate, COMMITS, &part)?.is_some());
     Ok(())
 }
 
@@ -128,10 +128,8 @@ impl SixteenPlaces {
     // The end is pinned, and then something is written there.
     fn is_pinned<R: Wait>(&self, rt: &R, seat: &mut ClientSeat, place: u32) -> bool {
         let at = i64::from(place);
-        match setting(self.alloc, u64::from(place) + 1) {
-            Ok(call) => seat.pin(rt) == Ok(at) && is_at(rt, seat, &call, at),
-            Err(_) => false,
-        }
+        let write = Write::Setting(u64::from(place) + 1);
+        seat.pin(rt) == Ok(at) && is_at(rt, self.alloc, seat, write, at)
     }
 }
 
@@ -139,6 +137,6 @@ impl SixteenPlaces {
 fn a_seat_holds_sixteen_places(rt: HostRuntime) -> Result<(), Fail> {
     let alloc = rt.alloc();
     let part = SixteenPlaces { alloc };
-    assert!(rt; serve_and_commit(&rt, alloc, 1, &mut OpenGate, &part)?);
+    assert!(rt; serve(&rt, alloc, 1, &mut OpenGate, COMMITS, &part)?.is_some());
     Ok(())
 }
