@@ -5,3 +5,4 @@ pub mod Seats
 pub mod Starts
 pub mod Unpushed
 pub mod Weights
+pub mod inner

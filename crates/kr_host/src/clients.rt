@@ -8,7 +8,7 @@ use kr_base::{NoMemory, ReadSource, WriteSink};
 use kr_server::{NoTranscript, ServeEnd, serve_client};
 use kr_shared::ClientSeat;
 use std::alloc::Global;
-use std::io::Eprint;
+use std::io::{BufReader, Eprint};
 use std::net::TcpStream;
 use std::sync::{Arc, Wait};
 use std::thread::{JoinHandle, Threads};
@@ -28,7 +28,7 @@ fn serve<R: Wait + Copy>(
     watch.begin(rt, Arc::try_clone(&stream)?);
     let end = serve_stream(rt, alloc, seat, watch, &stream);
     watch.end(rt);
-    Ok(end)
+    end
 }
 
 fn serve_stream<R: Wait + Copy>(
@@ -37,10 +37,14 @@ fn serve_stream<R: Wait + Copy>(
     seat: &mut ClientSeat,
     watch: &Watch,
     stream: &TcpStream,
-) -> ServeEnd {
-    let mut source = ClientSource::new(*rt, watch, ReadSource::new(stream));
+) -> Result<ServeEnd, NoMemory> {
+    // A message's size and body come by one read.
+    let Ok(reader) = BufReader::new(alloc, stream) else {
+        return Err(NoMemory);
+    };
+    let mut source = ClientSource::new(*rt, watch, ReadSource::new(reader));
     let mut sink = ClientSink::new(*rt, watch, WriteSink::new(stream));
-    serve_client(rt, alloc, seat, &mut source, &mut sink, &mut NoTranscript)
+    Ok(serve_client(rt, alloc, seat, &mut source, &mut sink, &mut NoTranscript))
 }
 
 /// Accepts one connection after the other and serves it at the seat, until the worker is stopped.

@@ -5,6 +5,7 @@
 mod asked_images;
 mod client_stream;
 mod clients;
+mod commits;
 mod door;
 mod ended;
 mod event_seat;

@@ -5,6 +5,7 @@ ghost use Rattle.kr_queue.specs.declared.jobs.Job.TheVariants as jobs;
 ghost use Rattle.kr_queue.specs.Jobs.{is_link_event};
 ghost use Rattle.kr_host.specs.Leading.{PushesLead};
 
+use crate::commits::Commits;
 use crate::door::Door;
 use crate::ended::Ended;
 use crate::event_seat::{EventSeat, Unpushed};
@@ -73,8 +74,8 @@ fn commit<R: Wait>(
     }
 }
 
-/// The worker's turns, with a quorum that commits each append at once, until it is stopped. What a turn without memory leaves
-/// is taken up by the next, after a rest.
+/// The worker's turns, with a quorum that commits all that was appended once no job waits, and behind 64 turns at the latest,
+/// until it is stopped. What a turn without memory leaves is taken up by the next, after a rest.
 pub fn turn_alone<R: Wait + Eprint + time::Clock + Copy>(
     rt: &R,
     worker: &mut WorkerSeat,
@@ -84,12 +85,15 @@ pub fn turn_alone<R: Wait + Eprint + time::Clock + Copy>(
     let mut clock = SystemClock::new(*rt);
     let mut shortage = Shortage::none();
     let mut taken = Taken::none();
+    let mut commits = Commits::new();
     let mut due = None;
     for _ in rt.forever() {
         let rung = worker.jobs().number(rt);
         let turn = worker.turn(rt, &mut OpenGate, quorum, &mut clock);
         taken.note(rt, worker, door);
-        due = commit(rt, door, quorum, due);
+        if commits.are_due(matches!(turn, Ok(Turn::Did))) {
+            due = commit(rt, door, quorum, due);
+        }
         shortage.note(rt, turn.is_err());
         match turn {
             Ok(Turn::Did) => {}

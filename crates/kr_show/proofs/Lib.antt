@@ -1,5 +1,7 @@
 pub mod BatchByBatch
+pub mod FrontBatches
 pub mod Fronts
 pub mod Items
 pub mod Runs
+pub mod Statuses
 pub mod Told

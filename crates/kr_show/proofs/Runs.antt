@@ -8,7 +8,7 @@ use Rattle.kr_show.specs.declared.fault.ShowFault.{ShowFault}
 use Rattle.kr_show.specs.declared.fault.ShowFault.TheVariants as faults
 use Rattle.kr_show.specs.declared.input.Word.{Word}
 use Rattle.kr_show.specs.declared.input.Word.TheVariants as which
-use Rattle.kr_show.specs.Endings.{IsWhy, NoWhy, Ran, ShowEnds, IsShown, TakesAll, TakesSome, longest_input}
+use Rattle.kr_show.specs.Endings.{IsImageHead, IsWhy, NoWhy, Ran, ShowEnds, IsShown, TakesAll, TakesSome, longest_input}
 use Rattle.kr_show.specs.inner.Runs.{FitsBehind, TookBehind, IsHeadOf, IsPieceFault, IsNotTaken, IsStartOf}
 
 pub consumes_none : (a : Option (List ℕ)) → Consumes a a []
@@ -63,7 +63,9 @@ head_of_start which.Image bytes start is = record { numbers = is.0; behind = dro
 
 pub no_head : (word : Word) (left left' written : Option (List ℕ)) (bytes : List ℕ) → TakesAll left left' bytes → IsStartOf word bytes None → ShowEnds (IsHeadOf word) left left' written written (Err faults.BadHead)
 no_head which.Log left left' written bytes all is = absurd is
-no_head which.Image left left' written bytes all is = (record { taken = bytes; all = all; fault = is.0; none = is.1 }, keeps_all written)
+no_head which.Image left left' written bytes all is =
+    let none : (head : List ℕ) → IsImageHead head bytes → ⊥ = (λ head h. let clash = sym is.1 ∙ h.read in cc) in
+    (record { taken = bytes; all = all; fault = is.0; numbers = is.1; none = none }, keeps_all written)
 
 module _ (IsHead : List ℕ → List ℕ → Type 0) (left left' written written' : Option (List ℕ)) (head bytes text : List ℕ) (is : IsHead head bytes) (all : TakesAll left left' bytes) where
   ran : (Why : ℕ → List ℕ → Type 0) (Wrote : List ℕ → Type 0) → IsShown Why head bytes text → Wrote text → Ran IsHead Wrote Why left left'

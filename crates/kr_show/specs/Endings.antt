@@ -82,12 +82,13 @@ pub record Ran (IsHead : List ℕ → List ℕ → Type 0) (Wrote : List ℕ →
 abbrev pub NoWhy : ℕ → List ℕ → Type 0
 NoWhy place rest = Unit {0}
 
--- the input has no head of an image
-pub record HasNoHead (left left' : Option (List ℕ)) : Type 0 where
+-- the input has no head like this: it doesn't begin with two numbers
+pub record HasNoHead (IsHead : List ℕ → List ℕ → Type 0) (left left' : Option (List ℕ)) : Type 0 where
   pub taken : List ℕ
   pub all : TakesAll left left' taken
   pub fault : WireFault
-  pub none : numbers_at taken ≡ Err fault
+  pub numbers : numbers_at taken ≡ Err fault
+  pub none : (head : List ℕ) → IsHead head taken → ⊥
 
 -- Done once all of the input is shown; else why not, and the lines of all batches before are written, and nothing else; where a
 -- write failed, some front of them. Where a read failed, or memory or the room for an input ran out before its end, nothing is
@@ -97,7 +98,7 @@ ShowEnds IsHead left left' written written' (Err faults.ReadFault) = TakesSome I
 ShowEnds IsHead left left' written written' (Err faults.TooLong) = TakesSome HasLongest left left' × Keeps written written'
 ShowEnds IsHead left left' written written' (Err faults.WriteFault) = Ran IsHead (AppendsFront written written') NoWhy left left'
 ShowEnds IsHead left left' written written' (Err faults.NoMemory) = (TakesSome IsAtMost left left' × Keeps written written') ⊎ Ran IsHead (Appends written written') NoWhy left left'
-ShowEnds IsHead left left' written written' (Err faults.BadHead) = HasNoHead left left' × Keeps written written'
+ShowEnds IsHead left left' written written' (Err faults.BadHead) = HasNoHead IsHead left left' × Keeps written written'
 ShowEnds IsHead left left' written written' answer = Ran IsHead (Appends written written') (IsWhy answer) left left'
 
 -- a log has no head

@@ -1,4 +1,5 @@
 pub mod BatchLines
 pub mod Endings
 pub mod Notes
+pub mod WhichStatus
 pub mod inner

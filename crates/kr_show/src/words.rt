@@ -5,6 +5,7 @@ ghost use Rattle.std.specs.Fmt.{decimal};
 ghost use Rattle.std.specs.Io.KnownBytes.{Appends, Keeps};
 ghost use Rattle.kr_base.specs.Causes.{Rose, Still};
 ghost use Rattle.kr_show.specs.Endings.{IsImageHead, IsLogHead, ShowEnds};
+ghost use Rattle.kr_show.specs.WhichStatus.{EndsRightly};
 ghost use Rattle.kr_show.specs.inner.Runs.{IsHeadOf};
 ghost use Rattle.kr_show.specs.Notes as notes;
 ghost use Rattle.kr_show.specs.Notes.{
@@ -175,6 +176,9 @@ fn show_and_tell<S: Source, K: Sink, E: Sink>(
     ensures ends { TellsAnswer (ShowEnds (IsHeadOf word) (S.left input.old) (S.left input.new)
         (K.written output.old) (K.written output.new)) (E.written notes.old) (E.written notes.new)
         (E.faults notes.old) (E.faults notes.new) result }
+    ensures which { Still (S.faults input.old) (S.faults input.new) →
+        Still (K.faults output.old) (K.faults output.new) →
+        EndsRightly (IsHeadOf word) (S.left input.old) result }
     ensures served { result ≡ Status.Usage → ⊥ }
     ensures read { result ≡ Status.ReadFault → Rose (S.faults input.old) (S.faults input.new) }
     ensures write { result ≡ Status.WriteFault → Rose (K.faults output.old) (K.faults output.new) }
@@ -210,6 +214,14 @@ pub fn run<S: Source, K: Sink, E: Sink>(
     ensures image { AsksImage words.now → TellsAnswer (ShowEnds IsImageHead (S.left input.old)
         (S.left input.new) (K.written output.old) (K.written output.new)) (E.written notes.old)
         (E.written notes.new) (E.faults notes.old) (E.faults notes.new) result }
+
+    // Which status that is, where no read and no write failed.
+    ensures log_status { AsksLog words.now → Still (S.faults input.old) (S.faults input.new) →
+        Still (K.faults output.old) (K.faults output.new) →
+        EndsRightly IsLogHead (S.left input.old) result }
+    ensures image_status { AsksImage words.now → Still (S.faults input.old) (S.faults input.new) →
+        Still (K.faults output.old) (K.faults output.new) →
+        EndsRightly IsImageHead (S.left input.old) result }
 
     // Usage is told exactly where the words aren't served, and then nothing is taken or written but its line.
     ensures usage { result ≡ Status.Usage → AreShowWords words.now → ⊥ }

@@ -88,6 +88,20 @@ fn show_held<R: Wait>(copies: &mut Copies, rt: &R) -> Result<(), AllocError>
     replace_with(copies, rt, |copies, rt| show(copies, rt))
 }
 
+// The same, where something was handed over. Else readers have it all, and nobody is waited for.
+fn show_pending<R: Wait>(copies: &mut Copies, rt: &R) -> Result<(), AllocError>
+    requires { AreRightAfter copies.old.desk.shown.value.options copies.old.desk.shown.value.list
+        (entries_in (drop copies.old.behind copies.old.log.items)) }
+    ensures list { ShowsLogOrNone result copies.old.desk.shown.value copies.new.desk.shown.value
+        copies.old.behind copies.old.log.items copies.new.behind copies.new.log.items }
+    ensures options { copies.new.desk.shown.value.options ≡ copies.old.desk.shown.value.options }
+{
+    if !copies.has_pending_operations() {
+        return Ok(());
+    }
+    show_held(copies, rt)
+}
+
 impl Window {
     ghost use Rattle.kr_view.specs.Displays.{with_waiting, all_shown};
 
@@ -135,7 +149,7 @@ impl Window {
         ensures err { OnErr result (self.new ≡ self.old) }
     {
         flush(&mut self.copies, &mut self.run, self.alloc)?;
-        show_held(&mut self.copies, rt)?;
+        show_pending(&mut self.copies, rt)?;
         Ok(())
     }
 

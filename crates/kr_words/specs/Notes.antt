@@ -20,12 +20,16 @@ IsDump words = words ≡ codes "dump" ∷ []
 abbrev pub IsMake : List (List ℕ) → ℕ → Type 0
 IsMake words seed = (seed < 2 ^ 32) × (words ≡ codes "make" ∷ decimal seed ∷ [])
 
+-- `nodes` and such a number
+abbrev pub IsNodes : List (List ℕ) → ℕ → Type 0
+IsNodes words seed = (seed < 2 ^ 32) × (words ≡ codes "nodes" ∷ decimal seed ∷ [])
+
 -- `balance` and a percentage, without leading zeros
 abbrev pub IsBalance : List (List ℕ) → ℕ → Type 0
 IsBalance words percent = (percent ≤ 100) × (words ≡ codes "balance" ∷ decimal percent ∷ [])
 
 abbrev pub AreServed : List (List ℕ) → Type 0
-AreServed words = IsSession words ⊎ IsFold words ⊎ IsDump words ⊎ ((seed : ℕ) × IsMake words seed) ⊎ ((percent : ℕ) × IsBalance words percent)
+AreServed words = IsSession words ⊎ IsFold words ⊎ IsDump words ⊎ ((seed : ℕ) × IsMake words seed) ⊎ ((seed : ℕ) × IsNodes words seed) ⊎ ((percent : ℕ) × IsBalance words percent)
 
 -- the status of what `fold`, `dump` and `balance` answer
 abbrev pub status_of : Result (Unit {0}) ToolFault → Status
@@ -48,7 +52,7 @@ line text = text ++ 10 ∷ []
 -- the line of a status, none where the job was done
 abbrev pub note_of : Status → List ℕ
 note_of statuses.Done = []
-note_of statuses.Usage = line (codes "usage: kr_tool session | fold | dump | make N | balance P")
+note_of statuses.Usage = line (codes "usage: kr_tool session | fold | dump | make N | nodes N | balance P")
 note_of (statuses.Malformed at) = line (codes "malformed at " ++ decimal at)
 note_of statuses.ReadFault = line (codes "read fault")
 note_of statuses.WriteFault = line (codes "write fault")

@@ -8,10 +8,10 @@ ghost use Rattle.kr_session_loop.specs.Endings.{BreaksRightly, EndsWith, Refuses
 ghost use Rattle.kr_fold.specs.Endings.{DumpEnds, DumpsWhole, FoldEnds, FoldsNoMore, FoldsWhole, RefusesBroken as RefusesBrokenImage, RefusesLonger};
 ghost use Rattle.kr_leaders.specs.Endings.{BalanceEnds, BalancesWhole, RefusesPast};
 ghost use Rattle.kr_words.specs.Notes as notes;
-ghost use Rattle.kr_words.specs.Making.{MakeEnds, MakesWhole};
-ghost use Rattle.kr_words.specs.Notes.{AreServed, IsBalance, IsDump, IsFold, IsMake, IsOf, IsSession, note_of, line, IsMalformed};
+ghost use Rattle.kr_words.specs.Making.{MakeEnds, MakesWhole, NodesEnds};
+ghost use Rattle.kr_words.specs.Notes.{AreServed, IsBalance, IsDump, IsFold, IsMake, IsNodes, IsOf, IsSession, note_of, line, IsMalformed};
 
-use crate::making::write_summary;
+use crate::making::{write_nodes, write_summary};
 use crate::percents::percent_of;
 use crate::seeds::seed_of;
 use kr_base::{Sink, Source};
@@ -25,7 +25,8 @@ use std::alloc::{AllocError, Global};
 /// Runs the tool by its word: `session` serves the session that comes from `input` and writes its output frames to
 /// `output`; `fold` reads record batches from place 0 to the end of the input and writes the image that they make;
 /// `dump` reads an image and writes its text; `make N` leads a controller through the session of the number, and writes what
-/// came of it; `balance P` reads an image, gives back to their preferred leaders the partitions of the brokers of which more
+/// came of it; `nodes N` makes the moves of the number with three controllers over one list, and writes what came of them;
+/// `balance P` reads an image, gives back to their preferred leaders the partitions of the brokers of which more
 /// than P % are imbalanced, and writes the image behind that. The line of a status other than Done goes to `notes`; a fault
 /// of `notes` changes no status. All other words are answered Usage.
 pub fn run<S: Source, K: Sink, E: Sink>(
@@ -43,6 +44,8 @@ pub fn run<S: Source, K: Sink, E: Sink>(
     ensures dump { IsDump words.now → IsOf (DumpEnds (S.left input.old) (S.left input.new)
         (K.written output.old) (K.written output.new)) result }
     ensures make { (seed : ℕ) → IsMake words.now seed → IsOf (MakeEnds seed (S.left input.old)
+        (S.left input.new) (K.written output.old) (K.written output.new)) result }
+    ensures nodes { (seed : ℕ) → IsNodes words.now seed → IsOf (NodesEnds seed (S.left input.old)
         (S.left input.new) (K.written output.old) (K.written output.new)) result }
     ensures balance { (percent : ℕ) → IsBalance words.now percent →
         IsOf (BalanceEnds percent (S.left input.old) (S.left input.new) (K.written output.old)
@@ -85,6 +88,8 @@ pub fn run<S: Source, K: Sink, E: Sink>(
         Still (K.faults output.old) (K.faults output.new) →
         IsOf (RefusesLonger (S.left input.old)) result }
     ensures make_complete { (seed : ℕ) → IsMake words.now seed →
+        Still (K.faults output.old) (K.faults output.new) → IsOf MakesWhole result }
+    ensures nodes_complete { (seed : ℕ) → IsNodes words.now seed →
         Still (K.faults output.old) (K.faults output.new) → IsOf MakesWhole result }
 
     // Likewise an image is balanced, or refused: also where it is past the last place at which a leader begins.
@@ -153,6 +158,8 @@ fn serve_words<S: Source, K: Sink>(
         (K.written output.old) (K.written output.new)) result }
     ensures make { (seed : ℕ) → IsMake words.now seed → IsOf (MakeEnds seed (S.left input.old)
         (S.left input.new) (K.written output.old) (K.written output.new)) result }
+    ensures nodes { (seed : ℕ) → IsNodes words.now seed → IsOf (NodesEnds seed (S.left input.old)
+        (S.left input.new) (K.written output.old) (K.written output.new)) result }
     ensures balance { (percent : ℕ) → IsBalance words.now percent →
         IsOf (BalanceEnds percent (S.left input.old) (S.left input.new) (K.written output.old)
         (K.written output.new)) result }
@@ -185,6 +192,8 @@ fn serve_words<S: Source, K: Sink>(
         IsOf (RefusesLonger (S.left input.old)) result }
     ensures make_complete { (seed : ℕ) → IsMake words.now seed →
         Still (K.faults output.old) (K.faults output.new) → IsOf MakesWhole result }
+    ensures nodes_complete { (seed : ℕ) → IsNodes words.now seed →
+        Still (K.faults output.old) (K.faults output.new) → IsOf MakesWhole result }
     ensures balance_complete { (percent : ℕ) → IsBalance words.now percent →
         Still (S.faults input.old) (S.faults input.new) →
         Still (K.faults output.old) (K.faults output.new) →
@@ -208,6 +217,7 @@ fn serve_words<S: Source, K: Sink>(
         Some(Word::Fold) => status_of(fold(alloc, input, output)),
         Some(Word::Dump) => status_of(dump(alloc, input, output)),
         Some(Word::Make(seed)) => status_of(write_summary(alloc, seed, output)),
+        Some(Word::Nodes(seed)) => status_of(write_nodes(alloc, seed, output)),
         Some(Word::Balance(percent)) => status_of(balance(alloc, percent, input, output)),
     }
 }
@@ -219,6 +229,7 @@ enum Word {
     Fold,
     Dump,
     Make(u32),
+    Nodes(u32),
     Balance(u8),
 }
 
@@ -228,6 +239,7 @@ fn lone_word(word: &Text) -> Option<Word>
     ensures fold { (result ≡ Some Word.Fold) ↔ (word.now ≡ codes "fold") }
     ensures dump { (result ≡ Some Word.Dump) ↔ (word.now ≡ codes "dump") }
     ensures make { (seed : ℕ) → result ≡ Some (Word.Make seed) → ⊥ }
+    ensures nodes { (seed : ℕ) → result ≡ Some (Word.Nodes seed) → ⊥ }
     ensures balance { (percent : ℕ) → result ≡ Some (Word.Balance percent) → ⊥ }
 {
     match word.as_str() {
@@ -245,6 +257,7 @@ fn make_word(word: &Text, number: &Text) -> Option<Word>
     ensures dump { result ≡ Some Word.Dump → ⊥ }
     ensures make { (seed : ℕ) →
         (result ≡ Some (Word.Make seed)) ↔ IsMake (word.now ∷ number.now ∷ []) seed }
+    ensures nodes { (seed : ℕ) → result ≡ Some (Word.Nodes seed) → ⊥ }
     ensures balance { (percent : ℕ) → result ≡ Some (Word.Balance percent) → ⊥ }
     ensures word { IsSome result → word.now ≡ codes "make" }
 {
@@ -257,12 +270,33 @@ fn make_word(word: &Text, number: &Text) -> Option<Word>
     }
 }
 
+// `nodes` and its number.
+fn nodes_word(word: &Text, number: &Text) -> Option<Word>
+    ensures session { result ≡ Some Word.Session → ⊥ }
+    ensures fold { result ≡ Some Word.Fold → ⊥ }
+    ensures dump { result ≡ Some Word.Dump → ⊥ }
+    ensures make { (seed : ℕ) → result ≡ Some (Word.Make seed) → ⊥ }
+    ensures nodes { (seed : ℕ) →
+        (result ≡ Some (Word.Nodes seed)) ↔ IsNodes (word.now ∷ number.now ∷ []) seed }
+    ensures balance { (percent : ℕ) → result ≡ Some (Word.Balance percent) → ⊥ }
+    ensures word { IsSome result → word.now ≡ codes "nodes" }
+{
+    if word.as_str() != "nodes" {
+        return None;
+    }
+    match seed_of(number.as_str()) {
+        Some(seed) => Some(Word::Nodes(seed)),
+        None => None,
+    }
+}
+
 // `balance` and its percentage.
 fn balance_word(word: &Text, number: &Text) -> Option<Word>
     ensures session { result ≡ Some Word.Session → ⊥ }
     ensures fold { result ≡ Some Word.Fold → ⊥ }
     ensures dump { result ≡ Some Word.Dump → ⊥ }
     ensures make { (seed : ℕ) → result ≡ Some (Word.Make seed) → ⊥ }
+    ensures nodes { (seed : ℕ) → result ≡ Some (Word.Nodes seed) → ⊥ }
     ensures balance { (percent : ℕ) →
         (result ≡ Some (Word.Balance percent)) ↔ IsBalance (word.now ∷ number.now ∷ []) percent }
 {
@@ -275,6 +309,23 @@ fn balance_word(word: &Text, number: &Text) -> Option<Word>
     }
 }
 
+// `nodes` or `balance`, and its number.
+fn later_word(word: &Text, number: &Text) -> Option<Word>
+    ensures session { result ≡ Some Word.Session → ⊥ }
+    ensures fold { result ≡ Some Word.Fold → ⊥ }
+    ensures dump { result ≡ Some Word.Dump → ⊥ }
+    ensures make { (seed : ℕ) → result ≡ Some (Word.Make seed) → ⊥ }
+    ensures nodes { (seed : ℕ) →
+        (result ≡ Some (Word.Nodes seed)) ↔ IsNodes (word.now ∷ number.now ∷ []) seed }
+    ensures balance { (percent : ℕ) →
+        (result ≡ Some (Word.Balance percent)) ↔ IsBalance (word.now ∷ number.now ∷ []) percent }
+{
+    match nodes_word(word, number) {
+        Some(made) => Some(made),
+        None => balance_word(word, number),
+    }
+}
+
 // The word that a text and its number are.
 fn numbered_word(word: &Text, number: &Text) -> Option<Word>
     ensures session { result ≡ Some Word.Session → ⊥ }
@@ -282,12 +333,14 @@ fn numbered_word(word: &Text, number: &Text) -> Option<Word>
     ensures dump { result ≡ Some Word.Dump → ⊥ }
     ensures make { (seed : ℕ) →
         (result ≡ Some (Word.Make seed)) ↔ IsMake (word.now ∷ number.now ∷ []) seed }
+    ensures nodes { (seed : ℕ) →
+        (result ≡ Some (Word.Nodes seed)) ↔ IsNodes (word.now ∷ number.now ∷ []) seed }
     ensures balance { (percent : ℕ) →
         (result ≡ Some (Word.Balance percent)) ↔ IsBalance (word.now ∷ number.now ∷ []) percent }
 {
     match make_word(word, number) {
         Some(made) => Some(made),
-        None => balance_word(word, number),
+        None => later_word(word, number),
     }
 }
 
@@ -297,6 +350,7 @@ fn word_of(words: &[Text]) -> Option<Word>
     ensures fold { (result ≡ Some Word.Fold) ↔ IsFold words.now }
     ensures dump { (result ≡ Some Word.Dump) ↔ IsDump words.now }
     ensures make { (seed : ℕ) → (result ≡ Some (Word.Make seed)) ↔ IsMake words.now seed }
+    ensures nodes { (seed : ℕ) → (result ≡ Some (Word.Nodes seed)) ↔ IsNodes words.now seed }
     ensures balance { (percent : ℕ) →
         (result ≡ Some (Word.Balance percent)) ↔ IsBalance words.now percent }
 {
@@ -329,7 +383,7 @@ fn tell<E: Sink>(alloc: Global, status: Status, notes: &mut E) -> Status
     match status {
         Status::Done => {}
         Status::Usage => put_line(
-            b"usage: kr_tool session | fold | dump | make N | balance P\n",
+            b"usage: kr_tool session | fold | dump | make N | nodes N | balance P\n",
             notes,
         ),
         Status::Malformed { at } => return tell_malformed(alloc, at, notes),

@@ -18,18 +18,18 @@ pub(crate) struct Chances {
     pub(crate) last: u64,
 }
 
-// The number behind this one.
+/// The number behind this one.
 #[tactic(auto, unfolding(crate::specs::Chances::next_drawn))]
-fn next(x: u64) -> u64
+pub fn next_drawn(x: u64) -> u64
     ensures { result ≡ drawing.next_drawn x }
 {
     x.wrapping_mul(6364136223846793005)
         .wrapping_add(1442695040888963407)
 }
 
-// A number below the given one.
+/// Of a number its upper half, below the given one.
 #[tactic(auto, unfolding(crate::specs::Chances::drawn_below))]
-fn below(x: u64, most: u64) -> u64
+pub fn drawn_below(x: u64, most: u64) -> u64
     requires { 0 < most }
     ensures value { result ≡ drawing.drawn_below x most }
     ensures less { result < most }
@@ -44,15 +44,15 @@ pub(crate) fn draw_round(x: u64) -> Chances
     ensures broker { result.broker ≤ 6 }
     ensures partition { result.partition ≤ 9 }
 {
-    let first = next(x);
-    let second = next(first);
-    let third = next(second);
-    let fourth = next(third);
+    let first = next_drawn(x);
+    let second = next_drawn(first);
+    let third = next_drawn(second);
+    let fourth = next_drawn(third);
     Chances {
-        kind: below(first, 6),
-        broker: 1 + below(second, 6) as u16,
-        topic: below(third, 300),
-        partition: below(fourth, 10) as u32,
+        kind: drawn_below(first, 6),
+        broker: 1 + drawn_below(second, 6) as u16,
+        topic: drawn_below(third, 300),
+        partition: drawn_below(fourth, 10) as u32,
         last: fourth,
     }
 }

@@ -38,7 +38,8 @@ impl Drop for Host {
     }
 }
 
-fn options(alloc: Global, seed: u32) -> Result<Options, NoMemory>
+/// The controller's options in the session of a number.
+pub fn options(alloc: Global, seed: u32) -> Result<Options, NoMemory>
     ensures options { IfOk result (λ o. o ≡ session.options seed) }
     ensures fits { IfOk result (λ o. IsTrue (are_options o)) }
 {

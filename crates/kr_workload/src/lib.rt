@@ -12,5 +12,8 @@ mod summary;
 mod taking;
 mod tally;
 
+pub use chances::{drawn_below, next_drawn};
+pub use host::options;
 pub use making::make;
+pub use requests::note;
 pub use summary::{Summary, summary_text};

@@ -176,7 +176,7 @@ pub(crate) fn election(alloc: Global, topic: u64, partition: i32) -> Result<Requ
 }
 
 /// The key `note` of the broker default is to be a round's number.
-pub(crate) fn note(alloc: Global, round: u32) -> Result<Request, NoMemory>
+pub fn note(alloc: Global, round: u32) -> Result<Request, NoMemory>
     ensures { IfOk result (λ request. request ≡ asking.note round) }
 {
     let operation = ConfigOperation {

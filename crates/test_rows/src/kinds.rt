@@ -21,10 +21,12 @@ pub(crate) enum Kind {
     Fold,
     Dump,
     Balance,
+    Moves,
+    Nodes,
 }
 
 /// Each kind, with the word that its rows begin with.
-pub(crate) const KINDS: [(Kind, &str); 18] = [
+pub(crate) const KINDS: [(Kind, &str); 20] = [
     (Kind::Primitives, "primitives"),
     (Kind::Records, "records"),
     (Kind::Batches, "batches"),
@@ -43,6 +45,8 @@ pub(crate) const KINDS: [(Kind, &str); 18] = [
     (Kind::Fold, "fold"),
     (Kind::Dump, "dump"),
     (Kind::Balance, "balance"),
+    (Kind::Moves, "moves"),
+    (Kind::Nodes, "nodes"),
 ];
 
 impl Kind {

@@ -7,10 +7,13 @@ mod codecs;
 mod heartbeats;
 mod image_text;
 mod kinds;
+mod moves;
 mod partitions;
 mod places;
 mod rows;
 mod stores;
+mod tellings;
+mod walks;
 
 use kinds::{KINDS, Kind};
 use kr_defs::Text;
@@ -36,7 +39,7 @@ enum Form {
 #[derive(Drop)]
 struct Tally {
     form: Form,
-    by_kind: [Counts; 18],
+    by_kind: [Counts; 20],
 }
 
 fn main(rt: HostRuntime) -> ExitCode {
@@ -46,7 +49,7 @@ fn main(rt: HostRuntime) -> ExitCode {
     };
     let mut tally = Tally {
         form,
-        by_kind: [Counts::NONE; 18],
+        by_kind: [Counts::NONE; 20],
     };
     compare_input(&rt, &mut tally)
 }

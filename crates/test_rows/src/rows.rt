@@ -9,6 +9,7 @@ use crate::kinds::Kind;
 use crate::partitions::{build_row, completes_row, elect_row, eligible_row, merge_row, target_row};
 use crate::places::place_row;
 use crate::stores::apply_row;
+use crate::walks::{moves_row, nodes_row};
 use std::alloc::Global;
 use testlib_words::{Fields, RowFault};
 
@@ -40,5 +41,7 @@ fn answer_to(alloc: Global, kind: Kind, fields: &mut Fields) -> Result<String, R
         Kind::Fold => fold_row(alloc, fields),
         Kind::Dump => dump_row(alloc, fields),
         Kind::Balance => balance_row(alloc, fields),
+        Kind::Moves => moves_row(alloc, fields),
+        Kind::Nodes => nodes_row(alloc, fields),
     }
 }

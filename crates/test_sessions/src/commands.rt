@@ -96,7 +96,7 @@ fn is_usage(ran: &Ran) -> bool {
         && ran.input.left().len() == 140
         && ran.output.calls() == 0
         && ran.notes.written()
-            == b"usage: kr_tool session | fold | dump | make N | balance P\n".as_slice()
+            == b"usage: kr_tool session | fold | dump | make N | nodes N | balance P\n".as_slice()
 }
 
 // The status of a session, and its line.

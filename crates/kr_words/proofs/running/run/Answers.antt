@@ -54,6 +54,12 @@ returns-clause-make g c = λ seed is. of_told _ c.tell.result c.serve_words-stat
 pub returns-clause-make_complete : goal.returns-clause-make_complete
 returns-clause-make_complete g c = λ seed is write. of_told _ c.tell.result c.serve_words-status.result c.tell.ensures.same (λ at whole. inr refl) (c.serve_words-status.ensures.make_complete seed is write)
 
+pub returns-clause-nodes : goal.returns-clause-nodes
+returns-clause-nodes g c = λ seed is. of_told _ c.tell.result c.serve_words-status.result c.tell.ensures.same (λ at none. absurd none.1) (c.serve_words-status.ensures.nodes seed is)
+
+pub returns-clause-nodes_complete : goal.returns-clause-nodes_complete
+returns-clause-nodes_complete g c = λ seed is write. of_told _ c.tell.result c.serve_words-status.result c.tell.ensures.same (λ at whole. inr refl) (c.serve_words-status.ensures.nodes_complete seed is write)
+
 pub returns-clause-balance : goal.returns-clause-balance
 returns-clause-balance g c = λ percent is. of_told _ c.tell.result c.serve_words-status.result c.tell.ensures.same (λ at. no_balance_line at percent _ _ _ _) (c.serve_words-status.ensures.balance percent is)
 

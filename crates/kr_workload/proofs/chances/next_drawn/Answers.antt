@@ -1,6 +1,6 @@
 use Rattle.kr_workload.specs.Chances.{next_drawn}
 use Rattle.kr_workload.proofs.Remainders.{remainder_first}
-use Rattle.kr_workload.proofs.chances.next.Goals as goal
+use Rattle.kr_workload.proofs.chances.next_drawn.Goals as goal
 
 pub returns : goal.returns
 unfolding next_drawn

@@ -1,0 +1,10 @@
+pub mod Going
+pub mod LineSteps
+pub mod LookedUp
+pub mod MadePages
+pub mod NamedLines
+pub mod NamesInOrder
+pub mod PutTogether
+pub mod ShownParts
+pub mod SoFar
+pub mod ValidImages

@@ -1,0 +1,2 @@
+pub mod SteadyReads
+pub mod inner

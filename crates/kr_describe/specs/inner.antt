@@ -1,0 +1,2 @@
+pub mod RecordFields
+pub mod ShownLines

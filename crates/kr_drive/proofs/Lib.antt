@@ -1,0 +1,2 @@
+pub mod DrivenMoves
+pub mod StandingReplies
