@@ -1,6 +1,6 @@
 //! Places of the log.
 
-ghost use Rattle.std.specs.Prelude.{◌≡◌};
+ghost use Rattle.std.specs.Prelude.{◌≡◌, unwrap_or};
 ghost use Rattle.kr_store.specs.declared.places.At.TheVariants as places;
 ghost use Rattle.kr_model.specs.World.{is_far};
 
@@ -12,6 +12,16 @@ pub(crate) fn is_far(place: &i64) -> bool
     ensures { result ≡ is_far place.now }
 {
     *place > GREATEST_TIP
+}
+
+/// The closed end: the place of the open transaction, or the end itself.
+pub(crate) fn closed_end(begun: &Option<i64>, end: &i64) -> i64
+    ensures { result ≡ unwrap_or begun.now end.now }
+{
+    match begun {
+        Some(place) => *place,
+        None => *end,
+    }
 }
 
 /// Where an image is kept under the place.
