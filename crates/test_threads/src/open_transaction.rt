@@ -3,6 +3,7 @@
 use crate::threads::{Signs, TellingQuorum, options};
 use kr_base::{MemoryClock, OpenGate};
 use kr_calls::Event;
+use kr_defs::Bytes;
 use kr_shared::{ClientSeat, LinkSeat, Turn, WorkerSeat, open};
 use kr_view::{Opening, RecordReader};
 use std::alloc::Global;
@@ -21,7 +22,7 @@ const ENDED: &str =
 
 fn batch(alloc: Global, hex: &str) -> Result<Event, Fail> {
     Ok(Event::Batch {
-        bytes: hex::decode(alloc, hex)?,
+        bytes: Bytes::from_vec(hex::decode(alloc, hex)?),
     })
 }
 
