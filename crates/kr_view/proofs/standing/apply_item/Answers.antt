@@ -28,5 +28,6 @@ returns-in-Err-IllFormed-clause-comes g c =
     let before = c.args.store.now in
     let after = c.apply_at.new.store in
     let end = c.args.end.now in
+    let failed = rw c.in-Err-IllFormed.field-0-is at c.in-Err-IllFormed.ensures.applied in
     let fits : FitsSigned w64 end = search rules in
-    subst (λ (z : ℤ). ComesTo before after end z) (sym (to_z-of_z w64 end fits)) (stays_there before after end c.in-Err-IllFormed.ensures.applied.2 c.requires.runs)
+    subst (λ (z : ℤ). ComesTo before after end z) (sym (to_z-of_z w64 end fits)) (stays_there before after end failed.2 c.requires.runs)
