@@ -1,5 +1,5 @@
 -- The oldest epoch that is needed: that of the oldest place, or of the begin of the transaction that was open there.
-use Rattle.std.proofs.Common.{◌≡◌, ◌∙◌, ◌⊎◌, inl, inr, ⊎_elim, ℤ, Bool, true, false, cond, not, List, [], ◌∷◌, ◌++◌, length, fold, filter, find, map, refl, sym, ap, subst}
+use Rattle.std.proofs.Common.{◌≡◌, ◌∙◌, ◌⊎◌, inl, inr, ⊎_elim, ℤ, Bool, true, false, cond, not, List, [], ◌∷◌, fold, filter, find, map, refl, sym, ap, subst}
 use Rattle.std.specs.Prelude.{int_lt, IsTrue, IfSome, IsSome, is_some, unwrap_or, Option, Some, None, Result, IsErr, IsOkAnd, MatchOption}
 use Rattle.std.specs.List.{AllByRecursion}
 use Rattle.std.specs.List.Sorted.{IsStrictlySortedBy}

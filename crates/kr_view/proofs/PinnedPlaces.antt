@@ -1,6 +1,6 @@
 -- The pinned places of a store, and their images.
 use Rattle.std.proofs.Common.{◌≡◌, ◌∙◌, ℤ, Bool, true, false, true≢false, cond, ◌||◌, not, ◌&&◌, List, [], ◌∷◌, ◌++◌, fold, filter, find, map, refl, sym, ap, subst}
-use Rattle.std.specs.Prelude.{Option, Some, None, IsSome, IsTrue, unwrap_or, Result, Ok, Err, MatchResult}
+use Rattle.std.specs.Prelude.{Option, Some, IsSome, IsTrue, unwrap_or, Result, Ok, Err, MatchResult}
 use Rattle.std.specs.List.{AllByRecursion, list_any}
 use Rattle.std.specs.Option.{option_map}
 use Rattle.std.specs.Ordering.{int_eq}

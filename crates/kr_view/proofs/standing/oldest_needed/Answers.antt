@@ -1,4 +1,4 @@
-use Rattle.std.proofs.Common.{◌≡◌, ◌∙◌, ℤ, Err, Ok, ap, fold, int_lt, of_z, rules, subst, sym, to_z, w64, false}
+use Rattle.std.proofs.Common.{◌≡◌, ◌∙◌, ℤ, Err, Ok, ap, fold, int_lt, rules, subst, sym, w64, false}
 use Rattle.std.specs.Prelude.{FitsSigned, unwrap_or}
 use Rattle.std.proofs.lemmas.Int.{to_z-of_z}
 use Rattle.kr_base.specs.declared.answers.NoEpoch.{NoEpoch}
