@@ -384,7 +384,7 @@ pub row_passes : (before after : Core) (items : List Item) (end : ℤ) (b : Bool
 row_passes before after items end true reason rest is settles = absurd cc
 row_passes before after items end false reason rest is settles = settles
 
-pub ruleset take_batch = (ends_there, row_refuses, row_passes)
+pub ruleset taking_batch = (ends_there, row_refuses, row_passes)
 
 settles_by : (before after : Core) (batch : Batch) (reason : Option Reason) → SettlesItems before after batch.items (end_of batch) reason → SettlesBatch before after (Ok batch) reason
 settles_by before after batch None follows = follows
