@@ -395,7 +395,7 @@ read_settles before after read batch is none settles =
     subst (λ (r : Result Batch BatchFault). SettlesBatch before after r (batch_reason before r)) (sym is)
     (subst (λ (l : Option ℤ). SettlesBatch before after (Ok batch) (cond (is_some l) (Some (already_leading l)) (decoded_batch_reason before batch))) (sym none) (settles_by before after batch (decoded_batch_reason before batch) settles))
 
-pub ruleset settle_batch = (has_items, read_settles, same_breaks)
+pub ruleset settle_batch = (has_items, few_items, read_settles, same_breaks)
 
 -- ---- the step
 
