@@ -42,7 +42,7 @@ fn shows(seat: &mut ClientSeat, place: i64, names: &[&str]) -> bool {
 }
 
 // How many records there are at the place, of ten at most.
-pub(crate) fn count_records(seat: &mut ClientSeat, place: i64) -> Option<usize> {
+fn count_records(seat: &mut ClientSeat, place: i64) -> Option<usize> {
     match seat.records(place, None, 10) {
         Ok(records) => Some(records.len()),
         Err(_) => None,

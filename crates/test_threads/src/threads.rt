@@ -114,7 +114,7 @@ fn end_after(batch: &[u8]) -> i64 {
     }
 }
 
-pub(crate) fn options(alloc: Global) -> Result<Options, NoMemory>
+fn options(alloc: Global) -> Result<Options, NoMemory>
     ensures { IfOk result (λ options. IsTrue (are_options options)) }
 {
     Ok(Options {
@@ -180,7 +180,7 @@ fn play_and_commit<R: Threads + Wait + Sync, P: Part + Sync>(
 }
 
 // Turns until the stop comes. Where no job is left, the link hears of it. True where nothing failed.
-pub(crate) fn turn_all<R: Wait, G: Gate>(
+fn turn_all<R: Wait, G: Gate>(
     rt: &R,
     alloc: Global,
     worker: &mut WorkerSeat,
