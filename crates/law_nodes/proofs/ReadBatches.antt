@@ -189,16 +189,20 @@ module _ (options : Options) where
 
 -- ---- any event of a node
 
+-- no transaction is open in its log, and so a new leader gives none up
+pub none_led : (list : List Batch) (elected : ℤ) (n : RunNode) → IsNode list elected n → (options : Options) (epoch next now : ℤ)
+    → batches_of options (at_time_of n.state (events.Lead epoch next now)) (events.Lead epoch next now) ≡ []
+none_led list elected n own options epoch next now =
+    let s : State = at_time_of n.state (events.Lead epoch next now) in
+    let there = following.has_plain_state n.state.world.log own.core.means (tip_of n.state) in
+    ap (λ (records : List Record). batch_for (taking_over s epoch next) records) (none_given_up s epoch next (closed there.0) there.1 refl)
+
 module _ (options : Options) (count : ℕ) (past : List Move) (k : ℕ) (n : RunNode) (is : slice_get (run options count past).nodes k ≡ Some n) where
   own : IsNode (run options count past).list (run options count past).elected n
   own = at_node (IsNode (run options count past).list (run options count past).elected) (run options count past).nodes k n (run_is options count past).nodes is
 
-  -- no transaction is open in its log, and so none is given up
   lead_reads : (epoch next now : ℤ) → AllByRecursion ReadsBack (batches_of options (at_time_of n.state (events.Lead epoch next now)) (events.Lead epoch next now))
-  lead_reads epoch next now =
-      let s : State = at_time_of n.state (events.Lead epoch next now) in
-      let there = following.has_plain_state n.state.world.log own.core.means (tip_of n.state) in
-      subst (λ (records : List Record). AllByRecursion ReadsBack (batch_for (taking_over s epoch next) records)) (sym (none_given_up s epoch next (closed there.0) there.1 refl)) tt
+  lead_reads epoch next now = subst (AllByRecursion ReadsBack) (sym (none_led (run options count past).list (run options count past).elected n own options epoch next now)) tt
 
   module _ (client : ℕ) (now : ℤ) (call : Call) (after : State) where
     abbrev asking : Event
