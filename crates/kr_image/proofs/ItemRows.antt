@@ -15,6 +15,7 @@ pub record Begins (item : Item) : Type 0 where
   pub may : (images : Images) (place : ℤ) → MayStand images place item → MayOpen images place
   pub row : (state : LogState) (place : ℕ) → apply_at state place item ≡ begin_at state place
   pub epochs : (images : Images) (place : ℤ) → with_begin images place item ≡ with_epoch images place
+  pub calls : (images : Images) → calls_at images item ≡ 0
 
 pub record Ends (item : Item) : Type 0 where
   pub row : (state : LogState) (place : ℕ) → apply_at state place item ≡ end_open state
@@ -39,7 +40,7 @@ IsRow roles.Inner item = Changes item
 row_of : (item : Item) → IsRow (item_role item) item
 unfolding apply_at
 row_of items.Control = record { row = λ state place. refl; epochs = λ images place. refl; calls = λ images. refl }
-row_of (items.Record (kinds.BeginTransaction name)) = record { may = λ images place may. may; row = λ state place. refl; epochs = λ images place. refl }
+row_of (items.Record (kinds.BeginTransaction name)) = record { may = λ images place may. may; row = λ state place. refl; epochs = λ images place. refl; calls = λ images. refl }
 row_of (items.Record kinds.EndTransaction) = record { row = λ state place. refl; epochs = λ images place. refl }
 row_of (items.Record (kinds.AbortTransaction reason)) = record { row = λ state place. refl; epochs = λ images place. refl; calls = λ images. refl }
 row_of (items.Record other) = record { row = λ state place. refl; epochs = λ images place. refl; calls = λ images. refl }
