@@ -1,8 +1,7 @@
 import os,re,shutil,sys
-# shared_functions.py CLONE LEMMAS FOLDER: functions of kr_shared over kr_engine, kr_view and kr_image with bodies left out; LEMMAS is a folder made by shared_lemmas.py
-C,L,D=sys.argv[1:4]
-FULL=['kr_base','kr_defs','kr_wire','kr_layout','kr_record','kr_batch','kr_calls','kr_store','kr_timeline','kr_change','kr_place','kr_contact','kr_sessions','kr_queue','kr_repeat','law_safety','law_batch_limits']
-STUB=['kr_snapshot','kr_model','law_published_log']
+# shared_functions.py CLONE FOLDER: functions of kr_shared over kr_engine and kr_view with bodies left out, the other libraries to be seeded there
+C,D=sys.argv[1:3]
+FULL=['kr_base','kr_defs','kr_wire','kr_layout','kr_record','kr_batch','kr_calls','kr_store','kr_timeline','kr_change','kr_place','kr_contact','kr_sessions','kr_queue','kr_repeat','law_safety','law_batch_limits','kr_image','kr_snapshot','kr_model','law_published_log']
 os.makedirs(f'{D}/crates',exist_ok=True)
 for c in FULL:
     if not os.path.isdir(f'{D}/crates/{c}'): shutil.copytree(f'{C}/crates/{c}',f'{D}/crates/{c}')
@@ -48,13 +47,7 @@ def tree(c,sub,top=False,skip=(),frm=C):
             r=os.path.relpath(os.path.join(root,f),a)
             if r in skip: continue
             put(f'{D}/crates/{c}/{sub}/{r}',open(os.path.join(root,f)).read())
-for c in STUB:
-    for sub in ('src','specs','proofs'):
-        if os.path.isdir(f'{L}/crates/{c}/{sub}'): tree(c,sub,frm=L)
-stripped('kr_image'); tree('kr_image','specs'); tree('kr_image','proofs',top=True)
 stripped('kr_view'); tree('kr_view','specs'); tree('kr_view','proofs',top=True)
-for c in ('kr_image','kr_view'):
-    p=f'{D}/crates/{c}/proofs/Lib.antt'; put(p,re.sub(r'^mod ','pub mod ',open(p).read(),flags=re.M))
 # the engine: its type and its public calls
 s=open(f'{C}/crates/kr_engine/src/engine.rt').read()
 put(f'{D}/crates/kr_engine/src/lib.rt','//! x\n#![tactic(auto)]\n\nmod engine;\nmod outputs;\nmod step;\n\npub use engine::Engine;\n')
@@ -76,15 +69,9 @@ put(f'{D}/crates/kr_engine/src/engine.rt',no_spec(e))
 o=strip(open(f'{C}/crates/kr_engine/src/outputs.rt').read()); i=o.index('// The first write waits no more.'); j=o.index('impl Engine {')
 put(f'{D}/crates/kr_engine/src/outputs.rt',no_spec(drop_using(o[:i]+public(o[j:]))))
 put(f'{D}/crates/kr_engine/src/step.rt',no_spec(drop_using(strip(open(f'{C}/crates/kr_engine/src/step.rt').read()))))
-put(f'{D}/crates/kr_engine/specs/Lib.antt',''); put(f'{D}/crates/kr_engine/proofs/Lib.antt','')
-# kr_shared, without images written
-out={'image_walk','image_writing','sharing'}
-for f in sorted(os.listdir(f'{C}/crates/kr_shared/src')):
-    if f[:-3] in out: continue
-    t=open(f'{C}/crates/kr_shared/src/{f}').read()
-    if f=='lib.rt': t='\n'.join(l for l in t.split('\n') if not any(re.search(r'\b'+m+r'\b',l) for m in out))
-    put(f'{D}/crates/kr_shared/src/{f}',t)
-drop_specs={'ImageWrites.antt','KeysBehind.antt'}; drop_proofs={'Sent.antt','ImageWritten.antt','ImageWalks.antt','ImageFronts.antt','KeyedRecords.antt','KeptImages.antt'}
+put(f'{D}/crates/kr_engine/specs/Lib.antt',''); put(f'{D}/crates/kr_engine/proofs/Lib.antt','pub mod Sent\n'); put(f'{D}/crates/kr_engine/proofs/Sent.antt',open(f'{C}/crates/kr_engine/proofs/Sent.antt').read())
+# kr_shared
+for f in sorted(os.listdir(f'{C}/crates/kr_shared/src')): put(f'{D}/crates/kr_shared/src/{f}',open(f'{C}/crates/kr_shared/src/{f}').read())
 def sync(sub,skip,dirs=()):
     a=f'{C}/crates/kr_shared/{sub}'; b=f'{D}/crates/kr_shared/{sub}'; have=set()
     for root,ds,fs in os.walk(a):
@@ -98,30 +85,8 @@ def sync(sub,skip,dirs=()):
         for f in fs:
             r=os.path.relpath(os.path.join(root,f),b)
             if r not in have: os.remove(os.path.join(root,f))
-sync('specs',drop_specs); sync('proofs',drop_proofs,out)
+sync('specs',()); sync('proofs',())
 shutil.copy(f'{C}/HANDLES',f'{D}/HANDLES')
-put(f'{D}/crates.txt',"""kr_base:
-kr_defs:
-kr_wire: thiserror
-kr_layout: kr_base kr_defs kr_wire thiserror
-kr_record: kr_base kr_defs kr_layout kr_wire thiserror
-kr_batch: kr_base kr_defs kr_layout kr_wire kr_record thiserror
-kr_calls: kr_base kr_defs thiserror
-kr_store: kr_base kr_defs
-kr_timeline: kr_base kr_defs
-kr_change: kr_base kr_defs
-kr_image: kr_base kr_defs kr_store kr_timeline kr_change
-kr_snapshot: kr_base kr_batch kr_defs kr_record kr_store kr_wire thiserror
-kr_place: kr_base kr_defs thiserror
-kr_contact: kr_base kr_defs
-kr_sessions: kr_base kr_contact kr_defs
-law_safety: kr_calls kr_defs kr_place
-law_batch_limits: kr_batch kr_calls kr_defs kr_record
-kr_model: kr_batch kr_calls kr_defs kr_snapshot kr_store kr_wire law_safety
-law_published_log: kr_batch kr_calls kr_defs kr_snapshot kr_model
-kr_engine: kr_base kr_batch kr_calls kr_defs kr_image kr_sessions kr_model kr_store
-kr_queue: kr_base kr_calls kr_defs crossbeam_queue
-kr_repeat: kr_base kr_calls kr_defs
-kr_view: kr_base kr_calls kr_defs kr_image kr_store left_right crossbeam_utils atomic_table core
-kr_shared: kr_base kr_batch kr_calls kr_defs kr_engine kr_queue kr_repeat kr_snapshot kr_view kr_model law_published_log law_safety
-""")
+lines=[l for l in open(f'{C}/crates.txt').read().split('\n') if l.split(':')[0] in FULL+['kr_engine','kr_view','kr_shared']]
+new={'kr_engine':'kr_engine: kr_base kr_batch kr_calls kr_defs kr_image kr_sessions kr_model kr_store','kr_view':'kr_view: kr_base kr_calls kr_defs kr_image kr_store left_right crossbeam_utils atomic_table core'}
+put(f'{D}/crates.txt','\n'.join(new.get(l.split(':')[0],l) for l in lines)+'\n')
