@@ -5,13 +5,9 @@ def put(path,text):
     os.makedirs(os.path.dirname(path),exist_ok=True)
     if os.path.exists(path) and open(path).read()==text: return
     open(path,'w').write(text)
-LOW=['kr_base','kr_defs','kr_wire','kr_layout','kr_record','kr_batch','kr_calls','kr_store','kr_place','kr_contact','kr_sessions','kr_queue','law_safety','kr_snapshot','kr_model','law_published_log']
+LOW=['kr_base','kr_defs','kr_wire','kr_layout','kr_record','kr_batch','kr_calls','kr_store','kr_timeline','kr_change','kr_image','kr_place','kr_contact','kr_sessions','kr_queue','law_safety','kr_snapshot','kr_model','law_published_log']
 for c in LOW:
     if not os.path.isdir(f'{D}/crates/{c}'): shutil.copytree(f'{F}/crates/{c}',f'{D}/crates/{c}')
-for c in ('kr_snapshot','kr_model','law_published_log'):
-    for root,ds,fs in os.walk(f'{F}/crates/{c}'):
-        if '/out' in root: continue
-        for f in fs: put(os.path.join(root,f).replace(F,D),open(os.path.join(root,f)).read())
 def tree(c,sub,a,skip=()):
     have=set()
     for root,ds,fs in os.walk(a):
@@ -112,7 +108,7 @@ tree('kr_shared','specs',f'{C}/crates/kr_shared/specs',{'ImageWrites.antt','Keys
 tree('kr_shared','proofs',f'{C}/crates/kr_shared/proofs',{'Sent.antt','ImageWritten.antt','ImageWalks.antt','ImageFronts.antt','KeyedRecords.antt','KeptImages.antt','LastSeats.antt','Misses.antt','PinnedPlaces.antt','Ends.antt','clients','image_walk','image_writing','opening','pins','places','sharing','worker'})
 shutil.copy(f'{C}/HANDLES',f'{D}/HANDLES')
 t=open(f'{F}/crates.txt').read()
-t=re.sub(r'(?m)^(kr_timeline|kr_change|kr_image|kr_repeat|law_batch_limits|kr_engine|kr_view|kr_shared):.*\n','',t)
+t=re.sub(r'(?m)^(kr_repeat|law_batch_limits|kr_engine|kr_view|kr_shared):.*\n','',t)
 put(f'{D}/crates.txt',t+'''kr_engine: kr_base kr_batch kr_calls kr_defs kr_sessions kr_model kr_store
 kr_view: kr_base kr_calls kr_defs
 kr_shared: kr_base kr_batch kr_calls kr_defs kr_engine kr_queue kr_snapshot kr_view kr_model law_published_log law_safety

@@ -90,3 +90,13 @@ shutil.copy(f'{C}/HANDLES',f'{D}/HANDLES')
 lines=[l for l in open(f'{C}/crates.txt').read().split('\n') if l.split(':')[0] in FULL+['kr_engine','kr_view','kr_shared']]
 new={'kr_engine':'kr_engine: kr_base kr_batch kr_calls kr_defs kr_image kr_sessions kr_model kr_store','kr_view':'kr_view: kr_base kr_calls kr_defs kr_image kr_store left_right crossbeam_utils atomic_table core'}
 put(f'{D}/crates.txt','\n'.join(new.get(l.split(':')[0],l) for l in lines)+'\n')
+# with --allow-holes nothing is searched for in the calls that are left out
+def hole(c,path,generic):
+    a='g c' if generic else 'c'
+    put(f'{D}/crates/{c}/proofs/{path}/Answers.antt',f"use Rattle.{c}.proofs.{path.replace('/','.')}.Goals as goal\n\npub unreachable-requires : goal.unreachable-requires\nunreachable-requires {a} = ?\n")
+for f in ('new','tip','committed','closed','leading','take_fresh','basis'): hole('kr_engine',f'engine/Engine/{f}',False)
+hole('kr_engine','outputs/Engine/next_told',False); hole('kr_engine','step/Engine/step',True)
+hole('kr_view','opening/open',True)
+for f in ('new','refusals'): hole('kr_view',f'opening/Opening/{f}',False)
+for f in ('stage','publish','close'): hole('kr_view',f'publisher/Publisher/{f}',f!='stage')
+for f in ('number','end','misses','look','read','scan'): hole('kr_view',f'seat/ReaderSeat/{f}',False)

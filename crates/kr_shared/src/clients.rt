@@ -177,7 +177,7 @@ pub struct ClientSeat {
     jobs: Arc<Bell, Global>,
     // Rung by the worker when it has published what a seat is told.
     pub(crate) copies: Arc<SeatBells, Global>,
-    // The committed copies.
+    // The shown copies.
     pub(crate) reader: ReaderSeat,
     // The number of the last write, pin or unpin.
     pub(crate) ticket: u64,
