@@ -95,7 +95,7 @@ write('kr_shared/src/line.rt','//! x\n\nuse kr_calls::{AnswerKind, Answered, Ent
 write('kr_shared/src/worker.rt','//! x\n\n'+struct(read('kr_shared/src/worker.rt'),'Turn','enum'))
 specs=['Answers','Appends','Desks','Gives','Lines','Serves','Standing','Takes','Tasks','Turns','Works','inner']
 write('kr_shared/specs/Lib.antt',''.join(f'pub mod {m}\n' for m in specs))
-mods=['Answered','ClosedShelves','Desks','Dropped','Losing','Made','Noting','Onwards','Published','Replied','Served','Serving','Settling','Standings','Starts','Turning','Writes','Written','Giving']
+mods=['Answered','ClosedShelves','Desks','Dropped','Losing','Made','Noting','Onwards','Published','Replied','Served','Serving','Settling','Standings','Starts','Turning','Writes','Written','Giving','Fronts','Appending']
 write('kr_shared/proofs/Lib.antt',''.join(f'pub mod {m}\n' for m in mods))
 first={'Answered':'pos_sum','ClosedShelves':'list_closed','Desks':'when_ok','Dropped':'below_again','Losing':'loses_led','Made':'all_behind','Noting':'closed_is_end','Published':'nothing_below','Served':'none_wait','Serving':'right_behind','Settling':'stays_same','Standings':'Rests','Starts':'kept_shelf','Writes':'none_besides','Written':'reasons_in'}
 groups={'published':['Published','ClosedShelves','Dropped'],'standings':['Standings'],'served':['Served','Writes'],'settling':['Settling'],'serving':['Serving'],'losing':['Losing'],'noting':['Noting'],'starts':['Starts'],'desks':['Desks']}

@@ -1,5 +1,5 @@
 -- What the steps of serving come to, one after the other.
-use Rattle.std.proofs.Common.{◌≡◌, ◌∙◌, sym, subst, ap, ℕ, ℤ, ◌+◌, ◌≤◌, Bool, true, List, [], ◌++◌, append-nil, arith}
+use Rattle.std.proofs.Common.{◌≡◌, ◌∙◌, sym, subst, ap, ℕ, ℤ, ◌+◌, ◌≤◌, Bool, true, false, List, [], ◌++◌, append-nil, arith}
 use Rattle.std.specs.Prelude.{Option, Some, None, is_some, not, ◌&&◌, Result, Ok, Err, IsOk, OnOk}
 use Rattle.std.specs.Result.{is_err}
 use Rattle.kr_calls.specs.declared.events.Event.{Event}

@@ -1,10 +1,11 @@
 -- What goes with a leadership, and what stays.
 use Rattle.std.proofs.Common.{◌≡◌, ◌∙◌, sym, subst, ℕ, suc, ℤ, pos, Bool, true, false, true≢false, cond, ◌||◌, ◌+◌, ◌≤◌, ◌<◌, List, [], ◌∷◌, ◌++◌, length, filter, refl, ap, arith, inl, inr}
-use Rattle.std.specs.Prelude.{◌+ℤ◌}
+use Rattle.std.specs.Prelude.{◌+ℤ◌, ◌==◌}
 use Rattle.std.specs.List.{AllByRecursion, list_any}
 use Rattle.std.proofs.lemmas.Bool.{cases_lt}
+use Rattle.std.proofs.lemmas.Bool.Decides.{Decides-eqb, not_from_Decides}
 use Rattle.std.proofs.lemmas.Int.{ints}
-use Rattle.std.proofs.lemmas.List.{append-nil}
+use Rattle.std.proofs.lemmas.List.{append-nil, nil_from_length}
 use Rattle.kr_calls.specs.declared.events.Entry.{Entry}
 use Rattle.kr_calls.specs.declared.events.Entry.TheVariants as entries
 use Rattle.kr_calls.specs.SeatList.{is_below, item_entries}
@@ -169,3 +170,10 @@ front_goes end front back back' front' is none gone =
 pub back_goes : (end : ℤ) (front back back' : List Entry) → back' ≡ up_to_below end back → (back' ≡ [] → ⊥) → front ++ back' ≡ up_to_below end (front ++ back)
 back_goes end front back [] is some = absurd (some refl)
 back_goes end front back (y ∷ rest) is some = ap (λ (l : List Entry). front ++ l) is ∙ sym (second_part end front y back rest (sym is))
+
+-- by whether something is left of the back part
+pub none_counted : (es : List Entry) → (length es == 0) ≡ true → es ≡ []
+none_counted es is = nil_from_length es ((Decides-eqb (length es) 0).0 is)
+
+pub some_counted : (es : List Entry) → (length es == 0) ≡ false → es ≡ [] → ⊥
+some_counted es is none = not_from_Decides (length es == 0) (Decides-eqb (length es) 0) is (ap length none)

@@ -7,7 +7,7 @@ use Rattle.kr_calls.specs.declared.events.Entry.{Entry}
 use Rattle.kr_calls.specs.SeatList.{image_below, item_entries}
 use Rattle.kr_defs.specs.declared.options.Options.{Options}
 use Rattle.kr_defs.specs.declared.record.Item.{Item}
-use Rattle.kr_defs.specs.Log.{Log, first, image_at}
+use Rattle.kr_defs.specs.Log.{Log, first, image_at, open_at, state_at}
 use Rattle.kr_view.specs.Shelves.{Shelf}
 use Rattle.kr_model.specs.Engine.{Core, IsEngine, outputs_left}
 use Rattle.kr_model.specs.World.{seen_at, start}
@@ -23,12 +23,12 @@ abbrev none : List Entry
 none = []
 
 same_below : (place : ℕ) → place ≤ 0 → image_below (pos place) none ≡ seen_at first place
-unfolding image_at
+unfolding image_at state_at
 same_below zero low = refl
 same_below (suc n) low = absurd (omega (arith, low))
 
 shows_none : Shows first 0 none
-unfolding image_at
+unfolding image_at state_at
 shows_none = record {
   whole = refl;
   low = All-nil _;
@@ -61,6 +61,7 @@ module _ (options : Options) (k : DeskState) (shelf : Shelf) (e : Core) (o : IsN
   }
 
   pub opened_stands : Standing (settled k) start []
+  unfolding open_at
   opened_stands = subst (λ (d : DeskView). Standing d start []) (sym settled_is) (record {
     engine = engine;
     none = none_left;

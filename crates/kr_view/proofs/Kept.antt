@@ -25,7 +25,6 @@ use Rattle.kr_view.proofs.Runs.{gone_on, still_there}
 
 -- ---- numbers
 
-
 lt_through : (x y z : ℤ) → int_lt x y ≡ true → int_lt y z ≡ true → int_lt x z ≡ true
 lt_through x y z a b = grind (arith, ints)
 
@@ -67,6 +66,10 @@ last_snoc : (xs : List Kept) (x : Kept) → slice_get (xs ++ x ∷ []) (length (
 last_snoc [] x = refl
 last_snoc (y ∷ []) x = last_later y x []
 last_snoc (y ∷ z ∷ xs) x = last_later y z (xs ++ x ∷ []) ∙ last_snoc (z ∷ xs) x
+
+pub is_there : (o : Option Image) → IsSome o → (image : Image) × (o ≡ Some image)
+is_there None is = absurd cc
+is_there (Some image) is = (image, refl)
 
 found_more : (p : Kept → Bool) (xs ys : List Kept) → IsSome (option_map (λ (k : Kept). k.1) (find p xs)) → find p (xs ++ ys) ≡ find p xs
 found_more p xs ys there = find-append p xs ys ∙ elim (find p xs) as (λ o. IsSome (option_map (λ (k : Kept). k.1) o) → option_or o (find p ys) ≡ o) [
