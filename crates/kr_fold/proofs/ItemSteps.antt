@@ -1,20 +1,20 @@
 -- Items are applied to a store, one after the other.
-use Rattle.std.proofs.Common.{◌≡◌, ◌∙◌, ℕ, zero, suc, ℤ, pos, negsuc, Bool, true, false, ◌+◌, ◌<◌, ◌≤◌, List, [], ◌∷◌, ◌++◌, drop, get_or, length, refl, sym, ap, subst, arith, inl, inr}
+use Rattle.std.proofs.Common.{◌≡◌, ◌∙◌, ℕ, suc, ℤ, pos, negsuc, Bool, true, false, ◌+◌, ◌<◌, ◌≤◌, List, [], ◌∷◌, ◌++◌, drop, get_or, length, refl, sym, ap, subst, arith, inl}
 use Rattle.std.proofs.lemmas.Int.{ints}
 use Rattle.std.proofs.lemmas.List.{drop_all, drop_more}
 use Rattle.std.proofs.lemmas.List.Elements.{All-append, All-from_recursion, recursion_from_All}
-use Rattle.std.specs.Prelude.{◌+ℤ◌, ◌-◌, ◌≤ℤ◌, Option, Some, None, Result, Ok, Err, IsSome, IsTrue, int_lt, is_some, slice_get, if◌then◌else◌}
+use Rattle.std.specs.Prelude.{◌+ℤ◌, ◌-◌, ◌≤ℤ◌, Option, Some, None, Ok, Err, IsSome, IsTrue, int_lt, is_some, slice_get, if◌then◌else◌}
 use Rattle.std.specs.List.{AllByRecursion}
 use Rattle.kr_defs.specs.declared.ill.Ill.{Ill}
 use Rattle.kr_defs.specs.declared.ill.Ill.TheVariants.{BadTransaction}
 use Rattle.kr_defs.specs.declared.record.Item.{Item}
 use Rattle.kr_defs.specs.declared.record.Item.TheVariants as items
 use Rattle.kr_defs.specs.declared.record.Record.TheVariants as kinds
-use Rattle.kr_defs.specs.Guard.{refuse◌when◌else◌, and_then}
+use Rattle.kr_defs.specs.Guard.{and_then}
 use Rattle.kr_defs.specs.Image.{Image}
 use Rattle.kr_defs.specs.LogStates.{LogState, Opened, apply_all_at, apply_at}
-use Rattle.kr_store.specs.Images.{Images, AreValid, IsAbove, kept_at, last_kept, log_place, marked, opened_at, opened_under, tip_state}
-use Rattle.kr_store.specs.ItemAnswers.{KeepsEpochs, MayStand, with_begin, with_epoch}
+use Rattle.kr_store.specs.Images.{Images, AreValid, IsAbove, kept_at, log_place, marked, opened_at, opened_under, tip_state}
+use Rattle.kr_store.specs.ItemAnswers.{KeepsEpochs, MayStand, with_begin}
 use Rattle.kr_fold.specs.inner.NextBatches.{AreApplied, IsBeyond, IsItemApplied, Keeps, Stands}
 
 -- ---- places

@@ -2,18 +2,17 @@
 use Rattle.std.proofs.Common.{◌≡◌, ◌∙◌, ℕ, suc, ℤ, pos, negsuc, true, false, Bool, cond, not, ◌+◌, List, [], ◌∷◌, ◌++◌, length, filter, refl, sym, ap, subst, arith, inl, inr}
 use Rattle.std.proofs.lemmas.Int.{ints}
 use Rattle.std.proofs.lemmas.List.Elements.{All-from_recursion, recursion_from_All}
-use Rattle.std.specs.Prelude.{◌+ℤ◌, ◌-◌, ◌≤ℤ◌, ◌⊎◌, Option, Some, None, All, IfOk, IfSome, IsSome, IsTrue, Result, Ok, Err, find, int_lt, is_some, slice_get}
+use Rattle.std.specs.Prelude.{◌+ℤ◌, ◌-◌, ◌≤ℤ◌, Option, Some, None, All, IfOk, IfSome, IsSome, IsTrue, Result, Ok, Err, find, int_lt, slice_get}
 use Rattle.std.specs.Option.{option_map, option_map_or}
 use Rattle.std.specs.List.{AllByRecursion}
 use Rattle.std.specs.Ordering.{int_eq}
 use Rattle.kr_defs.specs.Image.{Image}
 use Rattle.kr_defs.specs.LogStates.{LogState, Opened}
 use Rattle.kr_defs.proofs.IdLists.{same_id}
-use Rattle.kr_store.specs.declared.places.At.TheVariants as places
-use Rattle.kr_store.specs.Images.{Images, AreBegunFrom, AreValid, IsAbove, forgotten, image_of_place, kept_at, last_kept, log_place, marked, opened_at, opened_under, tip_state}
+use Rattle.kr_store.specs.Images.{Images, AreBegunFrom, AreValid, forgotten, kept_at, log_place, marked, opened_at, tip_state}
 use Rattle.kr_snapshot.specs.ImageText.{image_text}
 use Rattle.kr_fold.specs.Logs.{settled_end, settled_image}
-use Rattle.kr_fold.specs.inner.NextBatches.{IsBeyond, Keeps, Stands, log_of}
+use Rattle.kr_fold.specs.inner.NextBatches.{IsBeyond, Stands, log_of}
 
 -- ---- those that stay of a list
 

@@ -44,12 +44,7 @@ fn put<K: Sink>(output: &mut K, bytes: &[u8]) -> Result<(), ToolFault>
 }
 
 // The bytes of the image at the place, under the offset.
-fn image_bytes(
-    alloc: Global,
-    store: &ImageStore,
-    at: At,
-    offset: &i64,
-) -> Result<Vec<u8>, NoMemory>
+fn image_bytes(alloc: Global, store: &ImageStore, at: At, offset: &i64) -> Result<Vec<u8>, NoMemory>
     requires { pos 0 ≤ℤ offset.now }
     ensures { IfOk result (λ bytes. IfSome (image_of_place store.now at)
         (λ image. bytes.items ≡ image_text offset.now image)) }
