@@ -384,7 +384,7 @@ pub row_passes : (before after : Core) (items : List Item) (end : ℤ) (b : Bool
 row_passes before after items end true reason rest is settles = absurd cc
 row_passes before after items end false reason rest is settles = settles
 
-pub ruleset take_batch = (ends_there, row_refuses, row_passes)
+pub ruleset taking_batch = (ends_there, row_refuses, row_passes)
 
 settles_by : (before after : Core) (batch : Batch) (reason : Option Reason) → SettlesItems before after batch.items (end_of batch) reason → SettlesBatch before after (Ok batch) reason
 settles_by before after batch None follows = follows
@@ -395,7 +395,7 @@ read_settles before after read batch is none settles =
     subst (λ (r : Result Batch BatchFault). SettlesBatch before after r (batch_reason before r)) (sym is)
     (subst (λ (l : Option ℤ). SettlesBatch before after (Ok batch) (cond (is_some l) (Some (already_leading l)) (decoded_batch_reason before batch))) (sym none) (settles_by before after batch (decoded_batch_reason before batch) settles))
 
-pub ruleset settle_batch = (has_items, read_settles, same_breaks)
+pub ruleset settle_batch = (has_items, few_items, read_settles, same_breaks)
 
 -- ---- the step
 

@@ -1,7 +1,7 @@
 -- Items are applied to a store, one after the other.
-use Rattle.std.proofs.Common.{◌≡◌, ◌∙◌, sym, subst, ℕ, zero, suc, ℤ, pos, negsuc, Bool, true, false, cond, ◌+◌, ◌≤◌, ◌<◌, List, [], ◌∷◌, ◌++◌, length, refl, ap, arith, inl, inr}
+use Rattle.std.proofs.Common.{◌≡◌, ◌∙◌, sym, subst, ℕ, zero, suc, ℤ, pos, negsuc, Bool, true, false, cond, ◌+◌, ◌≤◌, ◌<◌, List, [], ◌∷◌, ◌++◌, length, get_or, drop, refl, ap, arith, inl, inr}
 use Rattle.std.proofs.lemmas.Int.{ints}
-use Rattle.std.proofs.lemmas.List.{append-nil, append_assoc}
+use Rattle.std.proofs.lemmas.List.{append-nil, append_assoc, drop_all, drop_more}
 use Rattle.std.proofs.lemmas.List.Elements.{All-append, All-from_recursion, recursion_from_All}
 use Rattle.std.proofs.lemmas.List.Folds.{find-append}
 use Rattle.std.specs.Prelude.{◌⊎◌, ◌+ℤ◌, ◌-◌, ◌≤ℤ◌, ◌||◌, Option, Some, None, Result, Ok, Err, All, IsSome, IsTrue, find, int_lt, is_some, slice_get, if◌then◌else◌}
@@ -207,7 +207,7 @@ pub may_stand : (images : Images) (place : ℤ) (item : Item) → MayOpen images
 may_stand images place (items.Record (kinds.BeginTransaction name)) may = may
 may_stand images place item may = tt
 
-place_more : (place at : ℤ) (i : ℕ) → at ≡ place +ℤ pos i → at +ℤ pos 1 ≡ place +ℤ pos (i + 1)
+pub place_more : (place at : ℤ) (i : ℕ) → at ≡ place +ℤ pos i → at +ℤ pos 1 ≡ place +ℤ pos (i + 1)
 place_more place at i is = omega (arith, ints, is)
 
 pub one_applied : (start now next : Images) (place at : ℤ) (all : List Item) (item : Item) (left : List Item) (i : ℕ) → last_kept start ≡ Some (place, start.tip)
@@ -242,4 +242,21 @@ pub all_applied : (start now : Images) (place at : ℤ) (all : List Item) (i : �
     → (None ≡ first_ill_at (tip_state start) (log_place place) all) × TakesItems start now place all
 all_applied start now place at all i a = (a.found, a.takes now refl)
 
-pub ruleset items_applied = (none_applied, may_stand)
+-- ---- the same with the items of a slice, of which so many are gone
+
+item_here : (all : List Item) (i : ℕ) (item : Item) → i < length all → item ≡ get_or all i item → drop i all ≡ item ∷ drop (i + 1) all
+item_here all i item within is = drop_more all i item within ∙ ap (λ x. x ∷ drop (i + 1) all) (sym is)
+
+pub applied_here : (start now next : Images) (place at : ℤ) (all : List Item) (i : ℕ) (item : Item) → last_kept start ≡ Some (place, start.tip) → i < length all → item ≡ get_or all i item
+    → Applying start now place at all (drop i all) i → TakesItem now next at item → Applying start next place (at +ℤ pos 1) all (drop (i + 1) all) (i + 1)
+applied_here start now next place at all i item last within is a t =
+    one_applied start now next place at all item (drop (i + 1) all) i last (subst (λ (left : List Item). Applying start now place at all left i) (item_here all i item within is) a) t
+
+pub refused_here : (start now : Images) (place at : ℤ) (all : List Item) (i : ℕ) (item : Item) (cause : Ill) → i < length all → item ≡ get_or all i item
+    → Applying start now place at all (drop i all) i → apply_at (tip_state now) (log_place at) item ≡ Err cause → Some (at, cause) ≡ first_ill_at (tip_state start) (log_place place) all
+refused_here start now place at all i item cause within is a none =
+    one_refused start now place at all item (drop (i + 1) all) i cause (subst (λ (left : List Item). Applying start now place at all left i) (item_here all i item within is) a) none
+
+pub applied_to_end : (start now : Images) (place at : ℤ) (all : List Item) (i : ℕ) → length all ≤ i → Applying start now place at all (drop i all) i
+    → (None ≡ first_ill_at (tip_state start) (log_place place) all) × TakesItems start now place all
+applied_to_end start now place at all i past a = all_applied start now place at all i (subst (λ (left : List Item). Applying start now place at all left i) (drop_all i all past) a)

@@ -1,15 +1,13 @@
 -- What the beginning of a leadership makes of an engine.
-use Rattle.std.proofs.Common.{◌≡◌, ◌∙◌, sym, subst, ℕ, ℤ, pos, Bool, true, false, cond, ◌+◌, ◌≤◌, ◌<◌, List, [], ◌∷◌, ◌++◌, map, length, refl, ap, arith}
+use Rattle.std.proofs.Common.{◌≡◌, ◌∙◌, sym, subst, ℕ, ℤ, pos, Bool, true, false, cond, ◌+◌, ◌≤◌, ◌<◌, List, [], ◌∷◌, ◌++◌, length, refl, ap, arith}
 use Rattle.std.proofs.lemmas.List.{append-nil, append_assoc}
 use Rattle.std.proofs.lemmas.List.Elements.{All-nil}
 use Rattle.std.specs.Prelude.{◌+ℤ◌, Option, Some, None, Result, Ok, IfSome, not, ◌||◌, filter, int_lt, int_le, is_some, option_to_list, unsigned_abs, All}
 use Rattle.std.specs.Int.{int_max}
 use Rattle.std.specs.List.{AllByRecursion}
-use Rattle.std.specs.Option.{option_map}
 use Rattle.std.specs.Ordering.{int_eq}
 use Rattle.std.specs.Result.{result_unwrap_or}
 use Rattle.kr_batch.specs.BatchBytes.{batch_bytes}
-use Rattle.kr_calls.specs.declared.events.Entry.{Entry}
 use Rattle.kr_calls.specs.declared.events.Event.{Event}
 use Rattle.kr_calls.specs.declared.events.Event.TheVariants as events
 use Rattle.kr_calls.specs.declared.events.Output.{Output}
@@ -30,28 +28,26 @@ use Rattle.kr_defs.specs.Log.{Log, image_at, open_at, tip}
 use Rattle.kr_defs.specs.LogStates.{apply_at}
 use Rattle.kr_defs.proofs.IdLists.{same_id}
 use Rattle.kr_defs.proofs.Tests.{none_is, not_false}
-use Rattle.law_safety.specs.HearingLaws.{HearsOf}
 use Rattle.law_safety.proofs.HearingRequests.{leaders_begin_hearing}
-use Rattle.kr_store.specs.Images.{AreValid, Images, marked, tip_state}
+use Rattle.kr_store.specs.Images.{AreValid, Images, marked}
 use Rattle.kr_model.specs.declared.writes.Write.{Write}
 use Rattle.kr_engine.specs.inner.Append.{batch_in, core_after_append_in}
 use Rattle.kr_engine.specs.inner.Batch.{TakesItem}
-use Rattle.kr_engine.specs.inner.Changes.{counted_core, timed_core, refused_core}
+use Rattle.kr_engine.specs.inner.Changes.{counted_core, timed_core}
 use Rattle.kr_engine.specs.inner.Lead.{BeginsToLead, GivesUp, GivesUpOpen, SettlesLead, an_abort, core_leading, core_up_to, lead_reason}
 use Rattle.kr_model.specs.Engine.{Core, IsEngine, IsState, IsStep, Rise, outputs_left}
 use Rattle.kr_model.specs.Entries.{item_entries}
 use Rattle.kr_model.specs.Events.{with_next_number, next_number, outcome, at_time_of}
 use Rattle.kr_model.specs.Lead.{after_lead, giving_up, in_lead, lead, may_begin_at, taking_over}
-use Rattle.kr_model.specs.Outputs.{answers, answers_in, append, is_open, is_open_in, next_batch, outputs_then}
+use Rattle.kr_model.specs.Outputs.{answers, answers_in, append, is_open, is_open_in}
 use Rattle.kr_model.specs.Reasons.{already_leading, bad_next, exhausted, old_epoch}
 use Rattle.kr_model.specs.Weights.{weight_settled}
-use Rattle.kr_model.specs.World as worlds
 use Rattle.kr_model.specs.World.{State, World, closed_of, is_far, log_with, seen_at, tip_of, with_batch, with_records}
 use Rattle.kr_model.proofs.ContactTimes.{begun_now}
 use Rattle.kr_model.proofs.EventsWithoutWrites.{answers_then, held_then, timed_state, waits_then}
 use Rattle.kr_model.proofs.KeptImages.{none_open, not_higher}
-use Rattle.kr_model.proofs.LogEntries.{Gains, batch_written, gained, gains_none, gains_then}
-use Rattle.kr_model.proofs.Logs.{HasState, open_written, state_seen, tip_written}
+use Rattle.kr_model.proofs.LogEntries.{Gains, gained, gains_none, gains_then}
+use Rattle.kr_model.proofs.Logs.{open_written, state_seen, tip_written}
 use Rattle.kr_model.proofs.LongerLogs.{rise_more}
 use Rattle.kr_model.proofs.Places.{near}
 use Rattle.kr_model.proofs.Queues.{IsDrained, drained}
@@ -59,7 +55,7 @@ use Rattle.kr_model.proofs.StandingEngines.{core_of, is_core, tip_only}
 use Rattle.kr_model.proofs.TransactionWeights.{begun_below}
 use Rattle.kr_engine.proofs.FirstReasons.{IsAccepted, accepted_step, none_row, row, unless_refused}
 use Rattle.kr_engine.proofs.KeptStates.{Keeps, engine_keeps, item_kept, keeps_weighed, place_of, tip_kept}
-use Rattle.kr_engine.proofs.LongerWorlds.{BegunBelow, begun_more, closed_same, kept_so, none_below, settled_same, settled_so, still_begun, world_with}
+use Rattle.kr_engine.proofs.LongerWorlds.{BegunBelow, begun_more, closed_same, none_below, settled_same, settled_so, still_begun, world_with}
 use Rattle.kr_engine.proofs.Refusals.{refused_step}
 
 -- on standby no write waits

@@ -90,7 +90,7 @@ module _ (e : Core) (bytes : List ℕ) (d : IsDrained e) where
     standby = sym k.leading ∙ none
 
     none_waits : writes ≡ []
-    none_waits = no_writes e.leading e.committed e.held writes none k.waits
+    none_waits = no_writes e.leading e.closed e.held writes none k.waits
 
     new_tip : n ≡ tip (alone n image)
     new_tip = omega arith

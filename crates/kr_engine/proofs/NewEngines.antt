@@ -1,5 +1,5 @@
 -- An engine to which nothing has happened.
-use Rattle.std.proofs.Common.{◌≡◌, ◌∙◌, sym, subst, ℕ, ℤ, pos, List, [], ◌∷◌, refl, ap}
+use Rattle.std.proofs.Common.{◌≡◌, ◌∙◌, sym, subst, ℕ, pos, [], ◌∷◌, refl, ap}
 use Rattle.std.specs.Prelude.{IfOk, Option, Result, Ok, Err, unwrap_or}
 use Rattle.std.specs.Option.{option_map}
 use Rattle.kr_defs.specs.declared.options.Options.{Options}

@@ -1,9 +1,9 @@
 -- A leadership gives up the transaction that is open at the tip.
-use Rattle.std.proofs.Common.{◌≡◌, ◌∙◌, sym, subst, ℕ, ℤ, pos, negsuc, Bool, true, false, cond, ◌+◌, ◌≤◌, ◌<◌, List, [], ◌∷◌, ◌++◌, length, refl, ap, arith}
+use Rattle.std.proofs.Common.{◌≡◌, ◌∙◌, sym, subst, ℕ, ℤ, pos, negsuc, Bool, true, false, cond, ◌+◌, ◌≤◌, List, [], ◌∷◌, ◌++◌, refl, ap, arith}
 use Rattle.std.proofs.lemmas.Int.{ints}
 use Rattle.std.proofs.lemmas.List.Elements.{All-append, All-from_recursion}
-use Rattle.std.specs.Prelude.{◌+ℤ◌, ◌≤ℤ◌, ◌||◌, Option, Some, None, Result, Ok, Err, IfSome, IsSome, IsTrue, int_lt, is_some, not}
-use Rattle.std.specs.Option.{option_map, option_map_or}
+use Rattle.std.specs.Prelude.{◌+ℤ◌, ◌≤ℤ◌, ◌||◌, Option, Some, None, Ok, Err, IfSome, IsSome, IsTrue, int_lt, is_some, not}
+use Rattle.std.specs.Option.{option_map}
 use Rattle.std.specs.Ordering.{int_eq}
 use Rattle.kr_defs.specs.declared.ill.Ill.{Ill}
 use Rattle.kr_defs.specs.declared.ill.Ill.TheVariants.{BadTransaction}
@@ -13,10 +13,10 @@ use Rattle.kr_defs.specs.declared.record.Item.TheVariants as items
 use Rattle.kr_defs.specs.declared.record.Record.{Record}
 use Rattle.kr_defs.specs.Guard.{found}
 use Rattle.kr_defs.specs.Image.{Image}
-use Rattle.kr_defs.specs.LogStates.{LogState, Opened, apply_at, closed}
+use Rattle.kr_defs.specs.LogStates.{Opened, apply_at, closed}
 use Rattle.law_batch_limits.proofs.AbortRecords.{abort_fits}
 use Rattle.law_batch_limits.specs.Fitting.{FitsBatch}
-use Rattle.kr_store.specs.Images.{AreValid, Images, IsAbove, kept_at, last_kept, log_place, marked, opened_at, tip_state}
+use Rattle.kr_store.specs.Images.{AreValid, Images, IsAbove, kept_at, log_place, marked, opened_at, tip_state}
 use Rattle.kr_store.specs.ItemAnswers.{KeepsEpochs, MayStand}
 use Rattle.kr_model.specs.Engine.{Core}
 use Rattle.kr_model.specs.Entries.{item_entries}
@@ -27,7 +27,7 @@ use Rattle.kr_model.proofs.Queues.{never}
 use Rattle.kr_engine.specs.inner.Append.{core_after_append_in}
 use Rattle.kr_engine.specs.inner.Batch.{IsTaken, TakesItem}
 use Rattle.kr_engine.specs.inner.Changes.{BreaksOff, GivesAlone}
-use Rattle.kr_engine.specs.inner.Lead.{BeginsToLead, GivesUp, GivesUpOpen, an_abort, core_leading, core_up_to, lead_reason}
+use Rattle.kr_engine.specs.inner.Lead.{BeginsToLead, GivesUpOpen, an_abort, core_leading, core_up_to, lead_reason}
 use Rattle.kr_engine.specs.inner.Ready.{IsReady, MayGiveUp}
 use Rattle.kr_engine.proofs.FirstContacts.{begins_above, begins_higher}
 use Rattle.kr_engine.proofs.FirstReasons.{none_row}

@@ -8,6 +8,7 @@ ghost use Rattle.kr_store.specs.ItemAnswers.{KeepsEpochs, MayStand};
 ghost use Rattle.kr_engine.specs.inner.Batch.{IsTaken, TakesItems};
 ghost use Rattle.kr_engine.specs.inner.Changes.{IsLonger};
 
+use crate::places::Next;
 use kr_base::{NoMemory, Steps};
 use kr_defs::{Ill, Item};
 use kr_store::{ApplyFault, Store};
@@ -41,7 +42,6 @@ fn at_place(at: &i64, cause: Ill) -> (i64, Ill)
 
 /// Applies items, of which the first stands at the place, up to one that has no meaning: its place and the cause. The
 /// epochs that are kept besides are places of a transaction's begin.
-#[tactic(auto, using(crate::proofs::ItemSteps::items_applied))]
 pub(crate) fn apply_items<S: Store, L: Ledger>(
     store: &mut S,
     place: &i64,
@@ -58,12 +58,12 @@ pub(crate) fn apply_items<S: Store, L: Ledger>(
     ensures longer { IsLonger (S.images store.old) (S.images store.new) place.now }
     ensures later { steps.old ≤ steps.new }
 {
-    let mut at = *place;
+    let mut next = Next::at(place);
     for item in items {
-        if let Some(cause) = apply_one(store, &at, item, steps)? {
-            return Ok(Some(at_place(&at, cause)));
+        match apply_one(store, &next.place, item, steps)? {
+            Some(cause) => return Ok(Some(at_place(&next.place, cause))),
+            None => next.go_on(),
         }
-        at += 1;
     }
     Ok(None)
 }

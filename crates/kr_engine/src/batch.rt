@@ -104,7 +104,7 @@ impl Engine {
         Ok(())
     }
 
-    #[tactic(auto, using(crate::proofs::BatchSteps::take_batch))]
+    #[tactic(auto, using(crate::proofs::BatchSteps::taking_batch))]
     fn take_batch<L: Ledger>(&mut self, batch: Batch, steps: &mut Steps<L>) -> Result<(), NoMemory>
         requires sound { IsSound self.old }
         requires ready { IsReady self.old }

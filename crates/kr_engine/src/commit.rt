@@ -94,7 +94,7 @@ impl Engine {
     /// The quorum committed this leader's log up to a place, whole batches at a time. All outputs are handed out before.
     /// It takes no memory, and at most the steps that what is newly settled weighs, and eight for each of its batches and
     /// once more.
-    #[tactic(auto, using(crate::proofs::CommitSteps::can_commit, crate::proofs::CommitSteps::commit_step, crate::proofs::CommitSteps::commit_sound))]
+    #[tactic(auto, using(crate::proofs::CommitSteps::can_commit))]
     pub fn commit<L: Ledger>(&mut self, epoch: i32, end: i64, steps: &mut Steps<L>)
         requires sound { IsSound self.old }
         requires drained { outputs_left self.old ≡ [] }

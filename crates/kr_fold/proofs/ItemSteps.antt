@@ -1,19 +1,20 @@
 -- Items are applied to a store, one after the other.
-use Rattle.std.proofs.Common.{◌≡◌, ◌∙◌, ℕ, zero, suc, ℤ, pos, negsuc, Bool, true, false, ◌+◌, ◌≤◌, List, [], ◌∷◌, ◌++◌, length, refl, sym, ap, subst, arith, inl, inr}
+use Rattle.std.proofs.Common.{◌≡◌, ◌∙◌, ℕ, suc, ℤ, pos, negsuc, Bool, true, false, ◌+◌, ◌<◌, ◌≤◌, List, [], ◌∷◌, ◌++◌, drop, get_or, length, refl, sym, ap, subst, arith, inl}
 use Rattle.std.proofs.lemmas.Int.{ints}
+use Rattle.std.proofs.lemmas.List.{drop_all, drop_more}
 use Rattle.std.proofs.lemmas.List.Elements.{All-append, All-from_recursion, recursion_from_All}
-use Rattle.std.specs.Prelude.{◌+ℤ◌, ◌-◌, ◌≤ℤ◌, Option, Some, None, Result, Ok, Err, IsSome, IsTrue, int_lt, is_some, slice_get, if◌then◌else◌}
+use Rattle.std.specs.Prelude.{◌+ℤ◌, ◌-◌, ◌≤ℤ◌, Option, Some, None, Ok, Err, IsSome, IsTrue, int_lt, is_some, slice_get, if◌then◌else◌}
 use Rattle.std.specs.List.{AllByRecursion}
 use Rattle.kr_defs.specs.declared.ill.Ill.{Ill}
 use Rattle.kr_defs.specs.declared.ill.Ill.TheVariants.{BadTransaction}
 use Rattle.kr_defs.specs.declared.record.Item.{Item}
 use Rattle.kr_defs.specs.declared.record.Item.TheVariants as items
 use Rattle.kr_defs.specs.declared.record.Record.TheVariants as kinds
-use Rattle.kr_defs.specs.Guard.{refuse◌when◌else◌, and_then}
+use Rattle.kr_defs.specs.Guard.{and_then}
 use Rattle.kr_defs.specs.Image.{Image}
 use Rattle.kr_defs.specs.LogStates.{LogState, Opened, apply_all_at, apply_at}
-use Rattle.kr_store.specs.Images.{Images, AreValid, IsAbove, kept_at, last_kept, log_place, marked, opened_at, opened_under, tip_state}
-use Rattle.kr_store.specs.ItemAnswers.{KeepsEpochs, MayStand, with_begin, with_epoch}
+use Rattle.kr_store.specs.Images.{Images, AreValid, IsAbove, kept_at, log_place, marked, opened_at, opened_under, tip_state}
+use Rattle.kr_store.specs.ItemAnswers.{KeepsEpochs, MayStand, with_begin}
 use Rattle.kr_fold.specs.inner.NextBatches.{AreApplied, IsBeyond, IsItemApplied, Keeps, Stands}
 
 -- ---- places
@@ -141,6 +142,7 @@ pub record Applying (start now : Images) (place at : ℤ) (all left : List Item)
   pub stands : Stands now at
   pub above : 1 ≤ i → IsAbove now.kept at
   pub at_place : at ≡ place +ℤ pos i
+  pub within : i ≤ length all
 
 pub none_applied : (start : Images) (place : ℤ) (all : List Item) → Stands start place → Applying start start place place all all 0
 none_applied start place all stands = record {
@@ -148,6 +150,7 @@ none_applied start place all stands = record {
   stands = stands;
   above = λ some. absurd (omega (arith, some));
   at_place = sym (Rattle.std.proofs.Math.IntN.+ℤ_idr place);
+  within = omega arith;
 }
 
 pub may_stand : (images : Images) (place : ℤ) (item : Item) → Stands images place → MayStand images place item
@@ -157,9 +160,9 @@ may_stand images place item stands = tt
 place_more : (place at : ℤ) (i : ℕ) → at ≡ place +ℤ pos i → at +ℤ pos 1 ≡ place +ℤ pos (i + 1)
 place_more place at i is = omega (arith, ints, is)
 
-pub one_applied : (start now next : Images) (place at : ℤ) (all : List Item) (item : Item) (left : List Item) (i : ℕ) → AreValid now
+pub one_applied : (start now next : Images) (place at : ℤ) (all : List Item) (item : Item) (left : List Item) (i : ℕ) → i < length all → AreValid now
     → Applying start now place at all (item ∷ left) i → IsItemApplied now next at item None → Applying start next place (at +ℤ pos 1) all left (i + 1)
-one_applied start now next place at all item left i valid a applied =
+one_applied start now next place at all item left i within valid a applied =
     let on = stands_on now next at item valid a.stands applied in
     record {
       applied =
@@ -169,6 +172,7 @@ one_applied start now next place at all item left i valid a applied =
       stands = on.1;
       above = λ _. on.0;
       at_place = place_more place at i a.at_place;
+      within = omega (arith, within);
     }
 
 -- an item has no meaning
@@ -182,4 +186,24 @@ pub all_applied : (start now : Images) (place at : ℤ) (all : List Item) (i : �
 all_applied start now place at all i some a =
     (sym a.applied, record { natural = a.stands.natural; above = a.above some; keeps = a.stands.keeps })
 
-pub ruleset items_applied = (none_applied, may_stand)
+-- ---- the same with the items of a slice, of which so many are gone
+
+item_here : (all : List Item) (i : ℕ) (item : Item) → i < length all → item ≡ get_or all i item → drop i all ≡ item ∷ drop (i + 1) all
+item_here all i item within is = drop_more all i item within ∙ ap (λ x. x ∷ drop (i + 1) all) (sym is)
+
+pub applied_here : (start now next : Images) (place at : ℤ) (all : List Item) (i : ℕ) (item : Item) → AreValid now → i < length all → item ≡ get_or all i item
+    → Applying start now place at all (drop i all) i → IsItemApplied now next at item None → Applying start next place (at +ℤ pos 1) all (drop (i + 1) all) (i + 1)
+applied_here start now next place at all i item valid within is a applied =
+    one_applied start now next place at all item (drop (i + 1) all) i within valid (subst (λ (left : List Item). Applying start now place at all left i) (item_here all i item within is) a) applied
+
+pub refused_here : (start now next : Images) (place at : ℤ) (all : List Item) (i : ℕ) (item : Item) (cause : Ill) → i < length all → item ≡ get_or all i item
+    → Applying start now place at all (drop i all) i → IsItemApplied now next at item (Some cause) → AreApplied start next place all (Some cause)
+refused_here start now next place at all i item cause within is a refused =
+    one_refused start now next place at all item (drop (i + 1) all) i cause (subst (λ (left : List Item). Applying start now place at all left i) (item_here all i item within is) a) refused
+
+pub applied_to_end : (start now : Images) (place at : ℤ) (all : List Item) (i : ℕ) → 1 ≤ length all → length all ≤ i → Applying start now place at all (drop i all) i
+    → AreApplied start now place all None × IsBeyond now (place +ℤ pos (length all))
+applied_to_end start now place at all i some past a =
+    let end = all_applied start now place at all i (omega (arith, some, past)) (subst (λ (left : List Item). Applying start now place at all left i) (drop_all i all past) a) in
+    let there : at ≡ place +ℤ pos (length all) = omega (arith, ints, a.at_place, a.within, past) in
+    (end.0, subst (IsBeyond now) there end.1)

@@ -2,18 +2,17 @@
 use Rattle.std.proofs.Common.{◌≡◌, ◌∙◌, ℕ, suc, ℤ, pos, negsuc, true, false, Bool, cond, not, ◌+◌, List, [], ◌∷◌, ◌++◌, length, filter, refl, sym, ap, subst, arith, inl, inr}
 use Rattle.std.proofs.lemmas.Int.{ints}
 use Rattle.std.proofs.lemmas.List.Elements.{All-from_recursion, recursion_from_All}
-use Rattle.std.specs.Prelude.{◌+ℤ◌, ◌-◌, ◌≤ℤ◌, ◌⊎◌, Option, Some, None, All, IfSome, IsSome, IsTrue, find, int_lt, is_some, slice_get}
+use Rattle.std.specs.Prelude.{◌+ℤ◌, ◌-◌, ◌≤ℤ◌, Option, Some, None, All, IfOk, IfSome, IsSome, IsTrue, Result, Ok, Err, find, int_lt, slice_get}
 use Rattle.std.specs.Option.{option_map, option_map_or}
 use Rattle.std.specs.List.{AllByRecursion}
 use Rattle.std.specs.Ordering.{int_eq}
 use Rattle.kr_defs.specs.Image.{Image}
 use Rattle.kr_defs.specs.LogStates.{LogState, Opened}
 use Rattle.kr_defs.proofs.IdLists.{same_id}
-use Rattle.kr_store.specs.declared.places.At.TheVariants as places
-use Rattle.kr_store.specs.Images.{Images, AreBegunFrom, AreValid, IsAbove, forgotten, image_of_place, kept_at, last_kept, log_place, marked, opened_at, opened_under, tip_state}
+use Rattle.kr_store.specs.Images.{Images, AreBegunFrom, AreValid, forgotten, kept_at, log_place, marked, opened_at, tip_state}
 use Rattle.kr_snapshot.specs.ImageText.{image_text}
 use Rattle.kr_fold.specs.Logs.{settled_end, settled_image}
-use Rattle.kr_fold.specs.inner.NextBatches.{IsBeyond, Keeps, Stands, log_of}
+use Rattle.kr_fold.specs.inner.NextBatches.{IsBeyond, Stands, log_of}
 
 -- ---- those that stay of a list
 
@@ -175,7 +174,7 @@ found_natural (k ∷ kept) epoch low some =
     ] refl some
 
 -- the open transaction's place and the image there
-pub begin_settled : (images : Images) (begin tip : ℤ) (image : Image) → Stands images tip → AreValid images → images.begun ≡ Some begin → kept_at images begin ≡ Some image
+begin_settled : (images : Images) (begin tip : ℤ) (image : Image) → Stands images tip → AreValid images → images.begun ≡ Some begin → kept_at images begin ≡ Some image
     → image_text begin image ≡ image_text (settled_end (log_of tip images)) (settled_image (log_of tip images))
 begin_settled images begin tip image stands valid is found =
     let opened : opened_at images images.begun ≡ Some (record { place = log_place begin; image = image }) = ap (λ o. opened_at images o) is ∙ ap (option_map (λ (i : Image). let o : Opened = record { place = log_place begin; image = i } in o)) found in
@@ -190,4 +189,15 @@ pub tip_settled : (images : Images) (tip : ℤ) → images.begun ≡ None → im
 tip_settled images tip none =
     sym (ap (λ (o : Option Opened). image_text (option_map_or (λ (o : Opened). pos o.place) o tip) (option_map_or (λ (o : Opened). o.image) o images.tip)) (ap (λ o. opened_at images o) none))
 
-pub ruleset settled = (begin_settled, natural_begin, tip_settled)
+-- the same of the bytes of the image there
+pub begin_written : (images : Images) (begin tip : ℤ) (bytes : List ℕ) → Stands images tip → AreValid images → images.begun ≡ Some begin → IfSome (kept_at images begin) (λ image. bytes ≡ image_text begin image)
+    → bytes ≡ image_text (settled_end (log_of tip images)) (settled_image (log_of tip images))
+begin_written images begin tip bytes stands valid is wrote = by_found (kept_at images begin) refl wrote (begin_kept images begin valid is)
+  where
+    by_found : (o : Option Image) → kept_at images begin ≡ o → IfSome o (λ image. bytes ≡ image_text begin image) → IsSome o → bytes ≡ image_text (settled_end (log_of tip images)) (settled_image (log_of tip images))
+    by_found None found wrote some = absurd cc
+    by_found (Some image) found wrote some = wrote ∙ begin_settled images begin tip image stands valid is found
+
+pub if_ok_then : {T E : Type 0} {P Q : T → Type 0} (r : Result T E) → ((x : T) → P x → Q x) → IfOk r P → IfOk r Q
+if_ok_then (Ok x) more is = more x is
+if_ok_then (Err e) more is = tt

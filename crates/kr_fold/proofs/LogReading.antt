@@ -1,6 +1,6 @@
 -- A log is read batch after batch.
 use Rattle.std.proofs.Common.{◌≡◌, ◌∙◌, ℕ, ◌+◌, ◌<◌, ◌≤◌, ◌⊎◌, ◌-◌, inl, inr, List, [], ◌∷◌, ◌++◌, length, length-append, append_assoc, ℤ, Option, Some, None, refl, sym, ap, subst, arith}
-use Rattle.std.specs.Prelude.{IfSome, IsSome, IsTrue, int_lt, pos, slice_get, ◌+ℤ◌}
+use Rattle.std.specs.Prelude.{IfSome, IsTrue, int_lt, pos, ◌+ℤ◌}
 use Rattle.std.proofs.lemmas.Int.{ints}
 use Rattle.kr_defs.specs.declared.limits.TheConstants.{MOST_RECORDS}
 use Rattle.std.specs.Io.KnownBytes.{Consumes, IsAtEnd}
@@ -18,7 +18,7 @@ use Rattle.kr_fold.specs.Logs.{Folded, folded_with, IsLog, NoneFollows, nothing}
 use Rattle.kr_fold.specs.Endings.{ReadsLog, EndsLog, BreaksLog, IsBreak, IsLogFault, TookLog}
 use Rattle.kr_defs.specs.Image.{Image, empty}
 use Rattle.kr_defs.specs.LogStates.{closed}
-use Rattle.kr_store.specs.Images.{Images, IsAbove, marked, no_images, tip_state}
+use Rattle.kr_store.specs.Images.{Images, marked, no_images, tip_state}
 use Rattle.kr_batch.proofs.Batches.{one_value}
 use Rattle.kr_fold.specs.declared.log.Place.{Place}
 use Rattle.kr_fold.specs.inner.NextBatches.{IsFollowed, IsWithin, Stands, log_at, log_of}

@@ -42,8 +42,28 @@ fn apply_one<S: Store, L: Ledger>(
     }
 }
 
+// The place of the next item.
+#[derive(Drop)]
+struct Next {
+    place: i64,
+}
+
+impl Next {
+    fn at(place: &i64) -> Next
+        ensures { result.place ≡ place.now }
+    {
+        Next { place: *place }
+    }
+
+    fn go_on(&mut self)
+        requires { self.old.place ≤ℤ (places_end +ℤ pos most_records) }
+        ensures { self.new.place ≡ (self.old.place +ℤ pos 1) }
+    {
+        self.place += 1;
+    }
+}
+
 // Applies items, of which the first stands at the place, up to one that has no meaning.
-#[tactic(auto, using(crate::proofs::ItemSteps::items_applied))]
 fn apply_items<S: Store, L: Ledger>(
     store: &mut S,
     place: &i64,
@@ -59,12 +79,12 @@ fn apply_items<S: Store, L: Ledger>(
     ensures beyond { IfOk result (λ ill. ill ≡ None →
         IsBeyond (S.images store.new) (place.now +ℤ pos (length items.now))) }
 {
-    let mut at = *place;
+    let mut next = Next::at(place);
     for item in items {
-        if let Some(cause) = apply_one(store, &at, item, steps)? {
-            return Ok(Some(cause));
+        match apply_one(store, &next.place, item, steps)? {
+            Some(cause) => return Ok(Some(cause)),
+            None => next.go_on(),
         }
-        at += 1;
     }
     Ok(None)
 }

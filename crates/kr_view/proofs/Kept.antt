@@ -6,7 +6,7 @@ use Rattle.std.specs.Ordering.{int_eq}
 use Rattle.std.specs.List.{AllByRecursion}
 use Rattle.std.proofs.lemmas.Int.{ints}
 use Rattle.std.proofs.lemmas.Bool.Decides.{Decides-int_eq}
-use Rattle.std.proofs.lemmas.List.Elements.{All-from_recursion, recursion_from_All, filter-append}
+use Rattle.std.proofs.lemmas.List.Elements.{recursion_from_All, filter-append}
 use Rattle.std.proofs.lemmas.List.Folds.{find-append}
 use Rattle.kr_defs.specs.Image.{Image, empty}
 use Rattle.kr_defs.specs.LogStates.{LogState, Opened}
@@ -16,15 +16,14 @@ use Rattle.kr_calls.specs.declared.pins.Pin.{Pin}
 use Rattle.kr_calls.specs.declared.events.Entry.{Entry}
 use Rattle.kr_calls.specs.SeatList.{PinnedLog, Reached, lower, nothing_pinned}
 use Rattle.kr_image.proofs.EpochEnds.{filter_all, last_later}
-use Rattle.kr_image.proofs.KeptLists.{all_passing, all_push, all_weaker, apart_before, find_filter, find_last, map_same}
-use Rattle.kr_store.specs.Images.{AreBegunFrom, AreValid, Images, IsAbove, begun_at, begun_under, forgotten, kept_at, kept_once, last_kept, log_place, marked, no_images, opened_at, opened_under, reverted, tip_state}
+use Rattle.kr_image.proofs.KeptLists.{all_push, all_weaker, apart_before, find_filter, find_last, map_same}
+use Rattle.kr_store.specs.Images.{AreBegunFrom, AreValid, Images, IsAbove, begun_at, begun_under, forgotten, kept_at, kept_once, last_kept, marked, no_images, opened_at, reverted, tip_state}
 use Rattle.kr_view.specs.Pinned.{log_in, pin_image, reached_in}
 use Rattle.kr_view.specs.Standing.{AreInTurn, AreNatural, ComesTo, OpensFrom, IsRunningAt, IsStandingAt, KeepsMore, run_with, with_run}
 use Rattle.kr_view.proofs.OpenTransactions.{Begun, Rising, opened_with, all_filter, all_follow_last, all_middle, around, begun_rising, lt_itself, not_both, turn_filter, turn_push}
-use Rattle.kr_view.proofs.Runs.{gone_on, still_there}
+use Rattle.kr_view.proofs.Runs.{still_there}
 
 -- ---- numbers
-
 
 lt_through : (x y z : ℤ) → int_lt x y ≡ true → int_lt y z ≡ true → int_lt x z ≡ true
 lt_through x y z a b = grind (arith, ints)
@@ -67,6 +66,10 @@ last_snoc : (xs : List Kept) (x : Kept) → slice_get (xs ++ x ∷ []) (length (
 last_snoc [] x = refl
 last_snoc (y ∷ []) x = last_later y x []
 last_snoc (y ∷ z ∷ xs) x = last_later y z (xs ++ x ∷ []) ∙ last_snoc (z ∷ xs) x
+
+pub is_there : (o : Option Image) → IsSome o → (image : Image) × (o ≡ Some image)
+is_there None is = absurd cc
+is_there (Some image) is = (image, refl)
 
 found_more : (p : Kept → Bool) (xs ys : List Kept) → IsSome (option_map (λ (k : Kept). k.1) (find p xs)) → find p (xs ++ ys) ≡ find p xs
 found_more p xs ys there = find-append p xs ys ∙ elim (find p xs) as (λ o. IsSome (option_map (λ (k : Kept). k.1) o) → option_or o (find p ys) ≡ o) [

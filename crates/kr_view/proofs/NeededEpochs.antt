@@ -1,6 +1,6 @@
 -- The oldest epoch that is needed: that of the oldest place, or of the begin of the transaction that was open there.
-use Rattle.std.proofs.Common.{◌≡◌, ◌∙◌, ◌⊎◌, inl, inr, ⊎_elim, ℤ, Bool, true, false, cond, not, List, [], ◌∷◌, ◌++◌, length, fold, filter, find, map, refl, sym, ap, subst}
-use Rattle.std.specs.Prelude.{int_lt, IsTrue, IfSome, IsSome, unwrap_or, Option, Some, None, Result, Ok, Err, IsErr, IsOkAnd, MatchOption}
+use Rattle.std.proofs.Common.{◌≡◌, ◌∙◌, ◌⊎◌, inl, inr, ⊎_elim, ℤ, Bool, true, false, cond, not, List, [], ◌∷◌, fold, filter, find, map, refl, sym, ap, subst}
+use Rattle.std.specs.Prelude.{int_lt, IsTrue, IfSome, IsSome, is_some, unwrap_or, Option, Some, None, Result, IsErr, IsOkAnd, MatchOption}
 use Rattle.std.specs.List.{AllByRecursion}
 use Rattle.std.specs.List.Sorted.{IsStrictlySortedBy}
 use Rattle.std.specs.Option.{option_map}
@@ -14,10 +14,12 @@ use Rattle.kr_calls.specs.declared.pins.Pin.{Pin}
 use Rattle.kr_calls.specs.SeatList.{lower}
 use Rattle.kr_image.proofs.KeptLists.{all_passing, all_weaker}
 use Rattle.kr_image.proofs.Stores.{found_has, found_passes}
-use Rattle.kr_store.specs.Images.{AreBegunFrom, AreValid, Images, begun_at, begun_under, kept_at}
+use Rattle.kr_store.specs.declared.places.At.{At}
+use Rattle.kr_store.specs.declared.places.At.TheVariants as places
+use Rattle.kr_store.specs.Images.{AreBegunFrom, AreValid, Images, begun_at, begun_of_place, begun_under, image_of_place, kept_at}
 use Rattle.kr_view.specs.Standing.{AreInTurn, OpensFrom, IsStandingAt}
 use Rattle.kr_view.proofs.OpenTransactions.{Begun, Follow, Rising, all_front, begun_rising, each_above, floor_through, lt_itself, not_both}
-use Rattle.kr_view.proofs.Kept.{at_end, oldest_first}
+use Rattle.kr_view.proofs.Kept.{at_end, is_there, not_lt_through, oldest_first}
 
 -- ---- a list of epochs that rise, each with what is open there
 
@@ -120,7 +122,13 @@ module _ (store : Images) (end : ℤ) (pins : List Pin) (s : IsStandingAt store 
   oldest = fold lower end pins
 
   there : IsSome (kept_at store oldest)
-  there = lowest_has (λ z. IsSome (kept_at store z)) end pins (ap Rattle.std.specs.Prelude.is_some (at_end store end pins s)) s.pinned
+  there = lowest_has (λ z. IsSome (kept_at store z)) end pins (ap is_some (at_end store end pins s)) s.pinned
+
+  -- what is answered of the transaction that was open there
+  pub begun_there : {E : Type 0} (at : At) (r : Result (Option ℤ) E) → at ≡ places.Epoch oldest → MatchOption (image_of_place store at) (IsErr r) (λ image. IsOkAnd r (λ begun. begun ≡ begun_of_place store at)) → IsOkAnd r (λ begun. begun ≡ begun_at store oldest)
+  begun_there at r is told =
+      subst (λ (o : Option Image). MatchOption o (IsErr r) (λ image. IsOkAnd r (λ begun. begun ≡ begun_at store oldest))) (is_there (kept_at store oldest) there).1
+      (subst (λ (p : At). MatchOption (image_of_place store p) (IsErr r) (λ image. IsOkAnd r (λ begun. begun ≡ begun_of_place store p))) is told)
 
   found : Found store.kept_begun oldest
   found = found_beside oldest store.kept store.kept_begun valid.begun.beside there
@@ -155,7 +163,7 @@ module _ (store : Images) (end : ℤ) (pins : List Pin) (s : IsStandingAt store 
   from_floor begun h = if_some_then (λ begin. int_lt begin floor ≡ false) (λ begin. IsTrue (not (int_lt begin floor))) begun (λ begin is. ap not is) h
 
   end_from : int_lt end floor ≡ false
-  end_from = Rattle.kr_view.proofs.Kept.not_lt_through floor oldest end floor_low (oldest_first end pins)
+  end_from = not_lt_through floor oldest end floor_low (oldest_first end pins)
 
   pub floor_begun : AreBegunFrom store floor
   floor_begun =

@@ -1,9 +1,9 @@
 -- What a store keeps of open transactions, while a run is applied, and the oldest epoch that is needed for them.
-use Rattle.std.proofs.Common.{◌≡◌, ◌≢◌, ◌∙◌, ◌⊎◌, inl, inr, ⊎_elim, ℕ, ℤ, pos, negsuc, Bool, true, false, true≢false, cond, not, ◌&&◌, List, [], ◌∷◌, ◌++◌, length, fold, filter, find, map, refl, sym, ap, subst, append_assoc, append-nil, arith}
-use Rattle.std.specs.Prelude.{◌+ℤ◌, int_lt, unsigned_abs, IsTrue, IfSome, IsSome, is_some, unwrap_or, slice_get, ◌-◌, Option, Some, None, Result, Ok, Err}
+use Rattle.std.proofs.Common.{◌≡◌, ◌≢◌, ◌∙◌, ◌⊎◌, inl, inr, ⊎_elim, ℕ, ℤ, pos, negsuc, Bool, true, false, true≢false, cond, ◌&&◌, List, [], ◌∷◌, ◌++◌, length, filter, find, map, refl, sym, ap, subst, append_assoc, append-nil, arith}
+use Rattle.std.specs.Prelude.{◌+ℤ◌, int_lt, unsigned_abs, IsTrue, IfSome, IsSome, is_some, slice_get, ◌-◌, Option, Some, None, Result, Ok, Err}
 use Rattle.std.specs.List.{AllByRecursion}
 use Rattle.std.specs.List.Sorted.{IsStrictlySortedBy}
-use Rattle.std.specs.Option.{option_map, option_map_or}
+use Rattle.std.specs.Option.{option_map}
 use Rattle.std.specs.Ordering.{int_cmp, int_eq}
 use Rattle.std.specs.declared.cmp.Ordering.TheVariants.{Less}
 use Rattle.std.proofs.lemmas.Int.{ints}
@@ -19,16 +19,15 @@ use Rattle.kr_defs.specs.declared.record.Record.TheVariants as kinds
 use Rattle.kr_defs.specs.Apply.{apply}
 use Rattle.kr_defs.specs.Image.{Image}
 use Rattle.kr_defs.specs.LogStates.{LogState, Opened, abort_open, apply_at, begin_at, end_open, image_after}
-use Rattle.kr_defs.proofs.Tests.{Gives, gives_done, gives_found, gives_refuse, gives_then, none_is, not_true, some_is}
+use Rattle.kr_defs.proofs.Tests.{Gives, gives_done, gives_found, gives_refuse, gives_then, none_is}
 use Rattle.kr_calls.specs.SeatList.{with_item, with_outcome}
 use Rattle.kr_view.specs.Pinned.{reached_in}
 use Rattle.kr_image.proofs.EpochEnds.{last_later, less_lt, split}
-use Rattle.kr_image.proofs.KeptLists.{all_passing, all_push, all_weaker, find_map}
-use Rattle.kr_image.proofs.Stores.{found_has, found_passes}
+use Rattle.kr_image.proofs.KeptLists.{all_push, all_weaker}
 use Rattle.kr_image.proofs.StoreStates.{kept_already, kept_more}
-use Rattle.kr_store.specs.Images.{AreBegunFrom, AreValid, Images, IsAbove, begun_at, begun_under, kept_at, last_kept, log_place, marked, opened_at, opened_under, tip_state}
+use Rattle.kr_store.specs.Images.{AreValid, Images, IsAbove, kept_at, log_place, marked, opened_at, opened_under, tip_state}
 use Rattle.kr_store.specs.ItemAnswers.{FallsBack, KeepsEpochs, MayOpen, MayStand, with_begin, with_epoch}
-use Rattle.kr_view.specs.Standing.{AreInTurn, AreNatural, ComesTo, OpensFrom, IsLastKept, IsRunningAt, IsStandingAt, KeepsMore}
+use Rattle.kr_view.specs.Standing.{AreInTurn, AreNatural, ComesTo, OpensFrom, IsLastKept, IsRunningAt, KeepsMore}
 
 -- ---- numbers
 

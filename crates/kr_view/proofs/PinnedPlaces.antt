@@ -1,6 +1,6 @@
 -- The pinned places of a store, and their images.
 use Rattle.std.proofs.Common.{◌≡◌, ◌∙◌, ℤ, Bool, true, false, true≢false, cond, ◌||◌, not, ◌&&◌, List, [], ◌∷◌, ◌++◌, fold, filter, find, map, refl, sym, ap, subst}
-use Rattle.std.specs.Prelude.{Option, Some, None, IsSome, IsTrue, unwrap_or, Result, Ok, Err, MatchResult}
+use Rattle.std.specs.Prelude.{Option, Some, IsSome, IsTrue, unwrap_or, Result, Ok, Err, MatchResult}
 use Rattle.std.specs.List.{AllByRecursion, list_any}
 use Rattle.std.specs.Option.{option_map}
 use Rattle.std.specs.Ordering.{int_eq}
@@ -18,7 +18,7 @@ use Rattle.kr_view.specs.declared.scans.ScanFault.{ScanFault}
 use Rattle.kr_view.specs.Pinned.{kept_image_at, log_in, pin_image}
 use Rattle.kr_view.specs.Scans.{AnswersAt, IsNotThere}
 use Rattle.kr_view.specs.Standing.{IsStandingAt}
-use Rattle.kr_view.proofs.Kept.{at_end, fewer_stand, one_more_stands}
+use Rattle.kr_view.proofs.Kept.{at_end, fewer_stand, is_there, one_more_stands}
 
 pub pins_are : (store : Images) (pins : List Pin) → pins_in (map (pin_image store) pins) ≡ pins
 pins_are store [] = refl
@@ -91,17 +91,13 @@ record HasPinned (store : Images) (pins : List Pin) (place : ℤ) : Type 0 where
   at : kept_at store place ≡ Some image
   is : option_map (λ (p : Pin × Image). p.1) (find (λ (p : Pin × Image). int_eq p.0.place place) (map (pin_image store) pins)) ≡ Some image
 
-is_there : (store : Images) (o : Option Image) → IsSome o → (image : Image) × (o ≡ Some image)
-is_there store None is = absurd cc
-is_there store (Some image) is = (image, refl)
-
 found_pin : (store : Images) (pins : List Pin) (place : ℤ) → AllByRecursion (λ pin. IsSome (kept_at store pin.place)) pins → list_any (λ pin. int_eq pin.place place) pins ≡ true → HasPinned store pins place
 found_pin store [] place there any = absurd (true≢false (sym any))
 found_pin store (pin ∷ pins) place there any =
     let found = λ (b : Bool). option_map (λ (p : Pin × Image). p.1) (cond b (Some (pin_image store pin)) (find (λ (p : Pin × Image). int_eq p.0.place place) (map (pin_image store) pins))) in
     elim (int_eq pin.place place) as (λ b. int_eq pin.place place ≡ b → (b || list_any (λ pin. int_eq pin.place place) pins) ≡ true → HasPinned store (pin ∷ pins) place) [
       | true ↦ λ is h.
-          let here = is_there store (kept_at store pin.place) there.0 in
+          let here = is_there (kept_at store pin.place) there.0 in
           record { image = here.0; at = ap (kept_at store) (sym ((Decides-int_eq pin.place place).0 is)) ∙ here.1; is = ap found is ∙ ap (λ (o : Option Image). Some (unwrap_or o empty)) here.1 }
       | false ↦ λ is h. let rest = found_pin store pins place there.1 h in record { image = rest.image; at = rest.at; is = ap found is ∙ rest.is }
     ] refl any

@@ -1,5 +1,5 @@
 -- The end rises where a run of entries changes the image.
-use Rattle.std.proofs.Common.{◌≡◌, ◌≢◌, ◌⊎◌, inl, inr, ⊎_elim, ℕ, ℤ, pos, Bool, true, false, ◌&&◌, cond, true≢false, List, [], ◌∷◌, fold, refl, sym, ap, ◌∙◌, subst, arith}
+use Rattle.std.proofs.Common.{◌≡◌, ◌≢◌, ◌⊎◌, inl, inr, ⊎_elim, ℕ, ℤ, pos, Bool, true, false, ◌&&◌, cond, true≢false, List, [], ◌∷◌, ◌+◌, ◌<◌, suc, length, get_or, drop, add-one, drop-cons, fold, refl, sym, ap, ◌∙◌, subst, arith}
 use Rattle.std.proofs.lemmas.Int.{ints}
 use Rattle.std.proofs.lemmas.List.Elements.{All-head, All-tail}
 use Rattle.std.proofs.lemmas.Bool.Decides.{Decides-int_eq}
@@ -13,6 +13,12 @@ use Rattle.kr_calls.specs.declared.events.Entry.TheVariants as entries
 use Rattle.kr_calls.specs.SeatList.{PinnedLog, Reached, loads_with, pinned_with, with_outcome}
 use Rattle.kr_view.specs.Runs.{is_single, AreNoSingles}
 use Rattle.kr_view.specs.Standing.{run_with, with_run}
+
+-- an entry more of a run
+pub run_more : (entries : List Entry) (i : ℕ) (e : Entry) (now new all : Reached) → i < length entries → e ≡ get_or entries i e → new ≡ run_with now e → fold run_with now (drop i entries) ≡ all → fold run_with new (drop (i + 1) entries) ≡ all
+run_more entries i e now new all more is one before =
+    let step : drop i entries ≡ e ∷ drop (i + 1) entries = rw (add-one, drop-cons entries i e) (ap (λ (y : Entry). y ∷ drop (suc i) entries) (sym is)) in
+    ap (λ (r : Reached). fold run_with r (drop (i + 1) entries)) one ∙ ap (λ (es : List Entry). fold run_with now es) (sym step) ∙ before
 
 abbrev Rises : Reached → Reached → Type 0
 Rises r after = (after ≡ r) ⊎ (int_lt r.end after.end ≡ true)

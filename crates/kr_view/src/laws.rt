@@ -15,7 +15,6 @@ pub fn each_step_keeps_the_rule()
 
 /// Where no transaction is open, nothing waits and neither an answer nor a pin nor a begin is staged, a publish at any end meets
 /// its condition; so where all that is staged is of the log and begins none.
-#[tactic(auto, using(crate::proofs::Logged::are_right, crate::proofs::Logged::are_plainly_right))]
 pub fn logged_entries_are_right()
     ensures logged { LoggedEntriesAreRight }
     ensures plain { PlainEntriesAreRight }

@@ -98,6 +98,27 @@ fn apply_item<L: Ledger>(
     }
 }
 
+// Applies an entry of a run, where it is an item. It answers the end. Without memory the state is one that was kept.
+#[tactic(auto, using(crate::proofs::OpenTransactions::run_steps))]
+fn apply_entry<L: Ledger>(
+    store: &mut ImageStore,
+    end: &i64,
+    entry: &Entry,
+    steps: &mut Steps<L>,
+) -> Result<i64, NoMemory>
+    requires runs { IsRunningAt store.old end.now }
+    ensures ok { IfOk result (λ next. reached_in store.new next
+        ≡ run_with (reached_in store.old end.now) entry.now) }
+    ensures comes { IfOk result (ComesTo store.old store.new end.now) }
+    ensures kept { KeepsMore store.old store.new }
+{
+    match entry {
+        Entry::Item { place, item } => apply_item(store, end, place, item, steps),
+        Entry::Load { .. } | Entry::Pin { .. } | Entry::Unpin { .. } => Ok(*end),
+        Entry::Answer { .. } | Entry::Stop { .. } => Ok(*end),
+    }
+}
+
 // Applies the items of a run. It answers the end. Without memory the state is one that was kept.
 #[tactic(auto, using(crate::proofs::OpenTransactions::run_steps))]
 fn apply_run<L: Ledger>(
@@ -114,9 +135,7 @@ fn apply_run<L: Ledger>(
 {
     let mut at = *end;
     for entry in entries {
-        if let Entry::Item { place, item } = entry {
-            at = apply_item(store, &at, place, item, steps)?;
-        }
+        at = apply_entry(store, &at, entry, steps)?;
     }
     Ok(at)
 }

@@ -92,7 +92,7 @@ fn show_held<R: Wait>(copies: &mut Copies, rt: &R) -> Result<(), AllocError>
 
 // The same, where something was handed over. Else readers have it all, and nobody is waited for.
 fn show_pending<R: Wait>(copies: &mut Copies, rt: &R) -> Result<(), AllocError>
-    requires { AreRightAfter copies.old.desk.shown.value.options copies.old.desk.shown.value.list
+    requires { MayShow copies.old.desk.shown.value.options copies.old.desk.shown.value.list
         (entries_in (drop copies.old.behind copies.old.log.items)) }
     ensures list { ShowsLogOrNone result copies.old.desk.shown.value copies.new.desk.shown.value
         copies.old.behind copies.old.log.items copies.new.behind copies.new.log.items }

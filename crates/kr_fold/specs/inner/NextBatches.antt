@@ -1,5 +1,5 @@
 -- A log's next batch, as the code judges it.
-use Rattle.std.specs.Prelude.{◌≡◌, ℕ, ℤ, pos, ◌+ℤ◌, ◌*◌, ◌≤◌, ◌≤ℤ◌, Option, Some, None, List, [], ◌∷◌, length, Result, Ok, Err, IsSome, MatchResult}
+use Rattle.std.specs.Prelude.{◌≡◌, ℕ, ℤ, pos, ◌+ℤ◌, ◌*◌, ◌≤◌, ◌≤ℤ◌, Option, Some, None, List, length, Result, Ok, Err, IsSome, MatchResult}
 use Rattle.std.specs.List.{AllByRecursion}
 use Rattle.kr_base.specs.declared.answers.NoMemory.{NoMemory}
 use Rattle.kr_batch.specs.declared.fault.BatchFault.{BatchFault}

@@ -1,6 +1,4 @@
-use Rattle.std.proofs.Common.{ap}
 use Rattle.std.proofs.lemmas.Result.{err_from_is_err_and}
-use Rattle.kr_fold.specs.Endings.{ReadsLog}
 use Rattle.kr_fold.specs.inner.NextBatches.{log_at}
 use Rattle.kr_fold.proofs.LogReading.{read_forgotten}
 use Rattle.kr_fold.proofs.log.read_on.Goals as goal
