@@ -93,12 +93,12 @@ d=read('kr_shared/src/desk.rt')
 write('kr_shared/src/desk.rt','//! x\n\nuse kr_calls::Reason;\n\n'+struct(d,'Served')+'\n'+struct(d,'Caller'))
 write('kr_shared/src/line.rt','//! x\n\nuse kr_calls::{AnswerKind, Answered, Entry};\n\n'+struct(read('kr_shared/src/line.rt'),'Note','enum'))
 write('kr_shared/src/worker.rt','//! x\n\n'+struct(read('kr_shared/src/worker.rt'),'Turn','enum'))
-specs=['Answers','Appends','Desks','Gives','Lines','Serves','Standing','Takes','Tasks','Turns','Works','inner']
+specs=['Answers','Appends','Desks','Gives','Lines','Serves','Standing','Takes','Tasks','Turns','Works','inner','StillKept']
 write('kr_shared/specs/Lib.antt',''.join(f'pub mod {m}\n' for m in specs))
-mods=['Answered','ClosedShelves','Desks','Dropped','Losing','Made','Noting','Onwards','Published','Replied','Served','Serving','Settling','Standings','Starts','Turning','Writes','Written','Giving','Fronts','Appending']
+mods=['Answered','ClosedShelves','Desks','Dropped','Losing','Made','Noting','Onwards','Published','Replied','Served','Serving','Settling','Standings','Starts','Turning','Writes','Written','Giving','Fronts','Appending','KeptImages']
 write('kr_shared/proofs/Lib.antt',''.join(f'pub mod {m}\n' for m in mods))
-first={'Answered':'pos_sum','ClosedShelves':'list_closed','Desks':'when_ok','Dropped':'below_again','Losing':'loses_led','Made':'all_behind','Noting':'closed_is_end','Published':'nothing_below','Served':'none_wait','Serving':'right_behind','Settling':'stays_same','Standings':'Rests','Starts':'kept_shelf','Writes':'none_besides','Written':'reasons_in'}
-groups={'published':['Published','ClosedShelves','Dropped'],'standings':['Standings'],'served':['Served','Writes'],'settling':['Settling'],'serving':['Serving'],'losing':['Losing'],'noting':['Noting'],'starts':['Starts'],'desks':['Desks']}
+first={'Answered':'pos_sum','ClosedShelves':'list_closed','Desks':'when_ok','Dropped':'below_again','Losing':'loses_led','Made':'all_behind','Noting':'closed_is_end','Published':'nothing_below','Served':'none_wait','Serving':'right_behind','Settling':'stays_same','Standings':'Rests','Starts':'kept_shelf','Writes':'none_besides','Written':'reasons_in','KeptImages':'image_valid'}
+groups={'published':['Published','ClosedShelves','Dropped'],'standings':['Standings'],'served':['Served','Writes'],'settling':['Settling'],'serving':['Serving'],'losing':['Losing'],'noting':['Noting'],'starts':['Starts'],'desks':['Desks'],'kept':['KeptImages']}
 src='//! x\n#![tactic(auto)]\n\nghost use Rattle.std.specs.Prelude.{IsTrue, true};\n\nmod answers;\nmod asked;\nmod desk;\nmod line;\nmod taking;\nmod worker;\n\npub use asked::Asked;\npub use worker::Turn;\n'
 for g,ms in groups.items():
     src+=f'\n/// x\npub fn check_{g}()\n    ensures {{ IsTrue true }}\n{{}}\n'
@@ -133,3 +133,8 @@ for c,sp,pr in (('kr_view',['Staged','Shelves','Showing','Tables','CopiesRule','
             n=os.path.basename(f)[:-5]
             if n!='Lib' and n not in pr: os.remove(f)
 shutil.copy(sys.argv[1]+'/HANDLES',sys.argv[2]+'/HANDLES')
+
+# the one definition of ImageWrites that KeptImages names
+t=read('kr_shared/specs/ImageWrites.antt'); i=t.index('pub record StillKept'); j=t.index('\n\n',i)
+write('kr_shared/specs/StillKept.antt','\n'.join(l for l in t.split('\n') if l.startswith('use') and re.search('Prelude|Entry[.]|SeatList',l))+'\n\n'+t[i:j]+'\n')
+k=read('kr_shared/proofs/KeptImages.antt').replace('specs.ImageWrites.{','specs.StillKept.{'); write('kr_shared/proofs/KeptImages.antt',k)
