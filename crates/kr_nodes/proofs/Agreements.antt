@@ -124,7 +124,7 @@ agrees c s =
     let r = run s.options s.nodes s.past in
     let a : RunAgrees r = nodes_agree s.options s.nodes s.past in
     let no_transaction : (k : ℕ) (n : RunNode) → slice_get r.nodes k ≡ Some n → closed_of n.state.world ≡ n.state.world.committed = λ k n is.
-        all_closed n.state.world.log (at_node (IsNode r.list r.elected) r.nodes k n (run_is s.options s.nodes s.past).nodes is).core.means n.state.world.committed in record {
+    all_closed n.state.world.log (at_node (IsNode r.list r.elected) r.nodes k n (run_is s.options s.nodes s.past).nodes is).core.means n.state.world.committed in record {
       list = r.list;
       list_is = s.stands.shared.list;
       follow = λ k node is. let p = there s.options r c s.stands k node is in record { state = p.0.state; writes = writes_in p.0.waiting; stands = p.2.engine; follows = a.follows k p.0 p.1 };
