@@ -110,6 +110,6 @@ shutil.copy(f'{C}/HANDLES',f'{D}/HANDLES')
 t=open(f'{F}/crates.txt').read()
 t=re.sub(r'(?m)^(kr_repeat|law_batch_limits|kr_engine|kr_view|kr_shared):.*\n','',t)
 put(f'{D}/crates.txt',t+'''kr_engine: kr_base kr_batch kr_calls kr_defs kr_sessions kr_model kr_store
-kr_view: kr_base kr_calls kr_defs
+kr_view: kr_base kr_calls kr_defs left_right crossbeam_utils atomic_table core
 kr_shared: kr_base kr_batch kr_calls kr_defs kr_engine kr_queue kr_snapshot kr_view kr_model law_published_log law_safety
 ''')
