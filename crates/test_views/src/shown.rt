@@ -63,6 +63,7 @@ pub(crate) fn partition(alloc: Global, topic: u128, index: i32) -> Result<Record
     })
 }
 
+#[tactic(auto, using(crate::proofs::StagedItems::stays_plain))]
 pub(crate) fn stage_record(
     publisher: &mut Publisher,
     place: i64,
