@@ -4,7 +4,7 @@ use Rattle.std.specs.Prelude.{Some, None}
 use Rattle.std.specs.Option.{option_map}
 use Rattle.kr_defs.specs.declared.record.Item.TheVariants as items
 use Rattle.kr_defs.specs.Image.{Image}
-use Rattle.kr_store.specs.Images.{AreBegunFrom, Images, IsSettled, no_images, forgotten, last_begun, last_image, last_kept, marked}
+use Rattle.kr_store.specs.Images.{Images, IsSettled, no_images, last_begun, last_image, last_kept, marked}
 use Rattle.kr_store.specs.declared.places.ApplyFault.TheVariants as faults
 use Rattle.testlib_rule_answers.specs.Histories.{AreClosed}
 use Rattle.testlib_rule_answers.proofs.ClosedStores.{closed_failed}
