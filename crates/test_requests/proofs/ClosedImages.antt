@@ -1,6 +1,6 @@
 -- No transaction is open in the image that is led, nor was at the place under which it is kept.
-use Rattle.std.proofs.Common.{◌≡◌, ◌∷◌, [], ℤ, pos, refl, sym, ap, subst}
-use Rattle.std.specs.Prelude.{Some, None}
+use Rattle.std.proofs.Common.{◌≡◌, ℤ, pos, refl, sym, ap, subst}
+use Rattle.std.specs.Prelude.{Some}
 use Rattle.std.specs.Option.{option_map}
 use Rattle.kr_defs.specs.declared.record.Item.TheVariants as items
 use Rattle.kr_defs.specs.Image.{Image}
