@@ -21,7 +21,7 @@ closed_back images after tip made begun same = closed_failed images after faults
 settled_of : (images : Images) (place : ℤ) → last_kept images ≡ Some (place, images.tip) → AreClosed images → IsSettled images
 settled_of images place kept closed =
     let back : AreClosed (record images { made = 0; begun = last_begun images }) =
-        closed_back images (record images { made = 0; begun = last_begun images }) (ap (option_map (λ (k : ℤ × Image). k.1)) kept) refl refl refl closed in
+    closed_back images (record images { made = 0; begun = last_begun images }) (ap (option_map (λ (k : ℤ × Image). k.1)) kept) refl refl refl closed in
     record { tip = closed.tip; last = back.tip }
 
 -- what a rule decides on the kept image opens none
