@@ -5,7 +5,7 @@ ghost use Rattle.std.specs.Ordering.{int_cmp};
 ghost use Rattle.kr_defs.specs.Map as entries;
 ghost use Rattle.kr_calls.specs.Deciding.{apply_records, weights};
 ghost use Rattle.kr_rules.specs.Handlers.{IsAtPlace};
-ghost use Rattle.kr_store.specs.Images.{last_kept};
+ghost use Rattle.kr_store.specs.Images.{IsSettled, last_kept};
 ghost use Rattle.kr_replication.specs.FencingIndex.{Indexes};
 ghost use Rattle.kr_brokers.specs.Expiry.{FencesExpired};
 
@@ -33,6 +33,8 @@ fn apply_all<S: Store, L: Ledger>(
         Ok (S.images store.new).tip) }
     ensures kept { (S.images store.new).kept ≡ (S.images store.old).kept }
     ensures calls { (S.images store.new).kept_made ≡ (S.images store.old).kept_made }
+    ensures begins { (S.images store.new).kept_begun ≡ (S.images store.old).kept_begun }
+    ensures settled { IsSettled (S.images store.old) → IsSettled (S.images store.new) }
     ensures made { OnOk result ((S.images store.new).made ≤
         (S.images store.old).made + weights (S.images store.old).tip records.now) }
     ensures later { steps.old ≤ steps.new }
@@ -69,6 +71,8 @@ pub fn fence_by<S: Store, L: Ledger>(
     ensures same { OnErr result (out.new ≡ out.old) }
     ensures kept { (S.images store.new).kept ≡ (S.images store.old).kept }
     ensures calls { (S.images store.new).kept_made ≡ (S.images store.old).kept_made }
+    ensures begins { (S.images store.new).kept_begun ≡ (S.images store.old).kept_begun }
+    ensures settled { IsSettled (S.images store.old) → IsSettled (S.images store.new) }
     ensures made { OnOk result ((S.images store.new).made ≤
         (S.images store.old).made + weights (S.images store.old).tip out.new.records) }
     ensures later { steps.old ≤ steps.new }
@@ -105,6 +109,8 @@ pub fn fence<S: Store, L: Ledger>(
     ensures same { OnErr result (out.new ≡ out.old) }
     ensures kept { (S.images store.new).kept ≡ (S.images store.old).kept }
     ensures calls { (S.images store.new).kept_made ≡ (S.images store.old).kept_made }
+    ensures begins { (S.images store.new).kept_begun ≡ (S.images store.old).kept_begun }
+    ensures settled { IsSettled (S.images store.old) → IsSettled (S.images store.new) }
     ensures made { OnOk result ((S.images store.new).made ≤
         (S.images store.old).made + weights (S.images store.old).tip out.new.records) }
     ensures later { steps.old ≤ steps.new }

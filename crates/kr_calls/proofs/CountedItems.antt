@@ -1,6 +1,5 @@
 -- Items in order that all have a meaning all count.
-use Rattle.std.proofs.Common.{◌≡◌, ℕ, suc, ℤ, pos, true, ◌&&◌, cond, List, [], ◌∷◌, length, fold, refl, sym, ap, subst, ◌∙◌, arith}
-use Rattle.std.proofs.Math.IntN.{+ℤ_idr}
+use Rattle.std.proofs.Common.{◌≡◌, ℕ, suc, ◌+◌, ℤ, pos, true, ◌&&◌, cond, List, [], ◌∷◌, length, fold, refl, sym, ap, subst, ◌∙◌, arith}
 use Rattle.std.proofs.lemmas.Bool.Decides.{Decides-int_eq, nat_tests}
 use Rattle.std.proofs.lemmas.Int.{ints}
 use Rattle.std.specs.Prelude.{◌+ℤ◌, ◌≤ℤ◌, int_lt, Result, Ok, Err}
@@ -8,32 +7,34 @@ use Rattle.std.specs.Ordering.{int_eq}
 use Rattle.kr_defs.specs.declared.ill.Ill.{Ill}
 use Rattle.kr_defs.specs.declared.limits.TheConstants.{PLACES_END}
 use Rattle.kr_defs.specs.declared.record.Item.{Item}
-use Rattle.kr_defs.specs.Apply.{apply}
 use Rattle.kr_defs.specs.Guard.{and_then}
-use Rattle.kr_defs.specs.Image.{Image}
-use Rattle.kr_defs.specs.Log.{apply_all}
-use Rattle.kr_calls.specs.SeatList.{Reached, item_entries, reached_with, with_image}
+use Rattle.kr_defs.specs.LogStates.{LogState, apply_all_at, apply_at}
+use Rattle.kr_calls.specs.SeatList.{Reached, item_entries, reached_with, with_outcome}
 
-next_place : (place : ℤ) (n : ℕ) → (place +ℤ pos 1) +ℤ pos n ≡ place +ℤ pos (suc n)
-next_place place n = grind (arith, ints)
+next_place : (place n : ℕ) → (place + 1) + n ≡ place + suc n
+next_place place n = omega arith
 
-is_low : (place : ℤ) (n : ℕ) → (place +ℤ pos (suc n)) ≤ℤ PLACES_END → int_lt place PLACES_END ≡ true
+is_low : (place n : ℕ) → pos (place + suc n) ≤ℤ PLACES_END → int_lt (pos place) PLACES_END ≡ true
 is_low place n low = grind (arith, ints, nat_tests)
 
-stands : (r : Reached) → int_lt r.end PLACES_END ≡ true → (int_eq r.end r.end && int_lt r.end PLACES_END) ≡ true
-stands r low = ap (λ b. b && int_lt r.end PLACES_END) ((Decides-int_eq r.end r.end).1 refl) ∙ low
+abbrev at : LogState → ℕ → Reached
+at state place = record { state = state; end = pos place }
 
-pub all_count : (r : Reached) (items : List Item) (image : Image) → apply_all r.image items ≡ Ok image → (r.end +ℤ pos (length items)) ≤ℤ PLACES_END
-    → fold reached_with r (item_entries r.end items) ≡ record { image = image; end = r.end +ℤ pos (length items) }
-all_count r [] image all low =
-    let same : r.image ≡ image = cc in
-    ap (λ (i : Image). record { image = i; end = r.end }) same ∙ ap (λ z. record { image = image; end = z }) (sym (+ℤ_idr r.end))
-all_count r (x ∷ xs) image all low =
-    elim (apply r.image x) as (λ (res : Result Image Ill). and_then res (λ after. apply_all after xs) ≡ Ok image
-    → fold reached_with (cond (int_eq r.end r.end && int_lt r.end PLACES_END) (with_image r (r.end +ℤ pos 1) res) r) (item_entries (r.end +ℤ pos 1) xs) ≡ record { image = image; end = r.end +ℤ pos (suc (length xs)) }) [
-      | Ok after ↦ λ h.
-          ap (λ b. fold reached_with (cond b (record { image = after; end = r.end +ℤ pos 1 }) r) (item_entries (r.end +ℤ pos 1) xs)) (stands r (is_low r.end (length xs) low))
-          ∙ (all_count (record { image = after; end = r.end +ℤ pos 1 }) xs image h (subst (λ z. z ≤ℤ PLACES_END) (sym (next_place r.end (length xs))) low)
-          ∙ ap (λ z. record { image = image; end = z }) (next_place r.end (length xs)))
+stands : (place : ℕ) → int_lt (pos place) PLACES_END ≡ true → (int_eq (pos place) (pos place) && int_lt (pos place) PLACES_END) ≡ true
+stands place low = ap (λ b. b && int_lt (pos place) PLACES_END) ((Decides-int_eq (pos place) (pos place)).1 refl) ∙ low
+
+pub all_count : (state after : LogState) (place : ℕ) (items : List Item) → apply_all_at state place items ≡ Ok after → pos (place + length items) ≤ℤ PLACES_END
+    → fold reached_with (at state place) (item_entries (pos place) items) ≡ at after (place + length items)
+all_count state after place [] all low =
+    let same : state ≡ after = cc in
+    let end : place ≡ place + 0 = omega arith in
+    ap (λ s. at s place) same ∙ ap (λ n. at after n) end
+all_count state after place (x ∷ xs) all low =
+    elim (apply_at state place x) as (λ (res : Result LogState Ill). and_then res (λ next. apply_all_at next (place + 1) xs) ≡ Ok after
+    → fold reached_with (cond (int_eq (pos place) (pos place) && int_lt (pos place) PLACES_END) (with_outcome (at state place) (pos place +ℤ pos 1) res) (at state place)) (item_entries (pos (place + 1)) xs) ≡ at after (place + suc (length xs))) [
+      | Ok next ↦ λ h.
+          ap (λ b. fold reached_with (cond b (at next (place + 1)) (at state place)) (item_entries (pos (place + 1)) xs)) (stands place (is_low place (length xs) low))
+          ∙ (all_count next after (place + 1) xs h (subst (λ n. pos n ≤ℤ PLACES_END) (sym (next_place place (length xs))) low)
+          ∙ ap (λ n. at after n) (next_place place (length xs)))
       | Err cause ↦ λ h. absurd cc
     ] all

@@ -1,6 +1,6 @@
 -- What is kept of a list of entries, and what stays of it.
 use Rattle.std.proofs.Common.{◌≡◌, ℤ, pos, Bool, true, false, true≢false, ◌&&◌, ◌||◌, cond, not, ◌==◌, List, [], ◌∷◌, ◌++◌, fold, filter, refl, sym, ap, ◌∙◌, subst, append_assoc, append-nil, arith}
-use Rattle.std.specs.Prelude.{◌+ℤ◌, int_lt, IsTrue, Result, Ok, Err}
+use Rattle.std.specs.Prelude.{◌+ℤ◌, int_lt, unsigned_abs, Option, Result, Ok, Err}
 use Rattle.std.specs.List.{AllByRecursion, list_any}
 use Rattle.std.specs.Ordering.{int_eq}
 use Rattle.std.proofs.lemmas.Bool.{and_parts}
@@ -10,14 +10,14 @@ use Rattle.std.proofs.lemmas.List.Elements.{filter-append}
 use Rattle.std.proofs.lemmas.List.Sums.{fold-append}
 use Rattle.kr_defs.specs.declared.ill.Ill.{Ill}
 use Rattle.kr_defs.specs.declared.limits.TheConstants.{PLACES_END}
-use Rattle.kr_defs.specs.Apply.{apply}
 use Rattle.kr_defs.specs.Image.{Image, empty}
+use Rattle.kr_defs.specs.LogStates.{LogState, Opened, apply_at}
 use Rattle.kr_defs.proofs.TopicWalks.{equal_ids, same_topic}
 use Rattle.kr_calls.specs.declared.events.Entry.{Entry}
 use Rattle.kr_calls.specs.declared.events.Entry.TheVariants as entries
 use Rattle.kr_calls.specs.declared.pins.Pin.{Pin}
 use Rattle.kr_calls.specs.Deciding.{apply_records}
-use Rattle.kr_calls.specs.SeatList.{PinnedLog, Reached, end_of, image_below, is_below, is_kept_in, is_load, is_pinned, is_same_pin, nothing_pinned, nothing_reached, pinned_log, pinned_with, pins_in, pins_of, pins_with, reached, reached_with, with_image, with_pin, without_pin}
+use Rattle.kr_calls.specs.SeatList.{PinnedLog, Reached, end_of, image_below, is_below, is_load, is_pinned, is_same_pin, nothing_pinned, nothing_reached, pinned_log, pinned_with, pins_in, pins_of, pins_with, reached, reached_with, with_image, with_outcome, without_pin}
 use Rattle.kr_calls.specs.SeatListLaws.{EndImages, KeptImagesStay, PinImages, PinsStay, unpins}
 
 -- ---- the end rises
@@ -31,8 +31,8 @@ not_lt_through x y z a b = grind (arith, ints)
 next_is_up : (place end : ℤ) → int_eq place end ≡ true → int_lt (place +ℤ pos 1) end ≡ false
 next_is_up place end is = let same : place ≡ end = (Decides-int_eq place end).0 is in grind (arith, ints)
 
-item_rises : (r : Reached) (place : ℤ) (result : Result Image Ill) (at low : Bool) → int_eq place r.end ≡ at → int_lt (cond (at && low) (with_image r (place +ℤ pos 1) result) r).end r.end ≡ false
-item_rises r place (Ok image) true true is = next_is_up place r.end is
+item_rises : (r : Reached) (place : ℤ) (result : Result LogState Ill) (at low : Bool) → int_eq place r.end ≡ at → int_lt (cond (at && low) (with_outcome r (place +ℤ pos 1) result) r).end r.end ≡ false
+item_rises r place (Ok state) true true is = next_is_up place r.end is
 item_rises r place (Err cause) true true is = lt_itself r.end
 item_rises r place result true false is = lt_itself r.end
 item_rises r place result false low is = lt_itself r.end
@@ -44,7 +44,7 @@ load_rises r offset result false false is = lt_itself r.end
 load_rises r offset result true low is = lt_itself r.end
 
 rises_one : (r : Reached) (e : Entry) → int_lt (reached_with r e).end r.end ≡ false
-rises_one r (entries.Item place item) = item_rises r place (apply r.image item) (int_eq place r.end) (int_lt place PLACES_END) refl
+rises_one r (entries.Item place item) = item_rises r place (apply_at r.state (unsigned_abs place) item) (int_eq place r.end) (int_lt place PLACES_END) refl
 rises_one r (entries.Load offset records) = load_rises r offset (apply_records empty records) (int_lt offset r.end) (int_lt offset PLACES_END) refl
 rises_one r (entries.Pin pin) = lt_itself r.end
 rises_one r (entries.Unpin pin) = lt_itself r.end
@@ -60,8 +60,8 @@ rises r (e ∷ es) = not_lt_through r.end (reached_with r e).end (fold reached_w
 past : (place p : ℤ) → int_lt p (place +ℤ pos 1) ≡ false → int_lt place p ≡ false → ⊥
 past place p a b = grind (arith, ints)
 
-item_alone : (p : ℤ) (r : Reached) (place : ℤ) (result : Result Image Ill) (b : Bool) → int_lt p (cond b (with_image r (place +ℤ pos 1) result) r).end ≡ false → int_lt place p ≡ false → cond b (with_image r (place +ℤ pos 1) result) r ≡ r
-item_alone p r place (Ok image) true up off = absurd (past place p up off)
+item_alone : (p : ℤ) (r : Reached) (place : ℤ) (result : Result LogState Ill) (b : Bool) → int_lt p (cond b (with_outcome r (place +ℤ pos 1) result) r).end ≡ false → int_lt place p ≡ false → cond b (with_outcome r (place +ℤ pos 1) result) r ≡ r
+item_alone p r place (Ok state) true up off = absurd (past place p up off)
 item_alone p r place (Err cause) true up off = refl
 item_alone p r place result false up off = refl
 
@@ -72,7 +72,7 @@ load_alone p r offset (Err cause) true up over is off = refl
 load_alone p r offset result false up over is off = refl
 
 alone : (p : ℤ) (r : Reached) (e : Entry) → int_lt p (reached_with r e).end ≡ false → is_below p e ≡ false → reached_with r e ≡ r
-alone p r (entries.Item place item) up off = item_alone p r place (apply r.image item) (int_eq place r.end && int_lt place PLACES_END) up off
+alone p r (entries.Item place item) up off = item_alone p r place (apply_at r.state (unsigned_abs place) item) (int_eq place r.end && int_lt place PLACES_END) up off
 alone p r (entries.Load offset records) up off = load_alone p r offset (apply_records empty records) (not (int_lt offset r.end) && int_lt offset PLACES_END) up (int_lt p offset) refl off
 alone p r (entries.Pin pin) up off = refl
 alone p r (entries.Unpin pin) up off = refl
@@ -92,8 +92,8 @@ whole_below p r (e ∷ es) up =
 
 -- ---- what stands below a kept place stays
 
-abbrev at : Image → ℤ → Reached
-at image end = record { image = image; end = end }
+abbrev at : LogState → ℤ → Reached
+at state end = record { state = state; end = end }
 
 abbrev reached_below : ℤ → List Entry → Reached
 reached_below place list = reached (filter (is_below place) list)
@@ -104,28 +104,28 @@ lower_not place p h = elim (int_eq place p) as (λ b. int_eq place p ≡ b → b
   | false ↦ λ is. refl
 ] refl
 
-stays : (p : ℤ) (image : Image) (e : Entry) → is_load e ≡ false → fold reached_with (at image p) (filter (is_below p) (e ∷ [])) ≡ at image p
-stays p image (entries.Item place item) plain =
-    elim (int_lt place p) as (λ b. int_lt place p ≡ b → fold reached_with (at image p) (cond b (entries.Item place item ∷ []) []) ≡ at image p) [
-      | true ↦ λ is. ap (λ b. cond (b && int_lt place PLACES_END) (with_image (at image p) (place +ℤ pos 1) (apply image item)) (at image p)) (lower_not place p is)
+stays : (p : ℤ) (state : LogState) (e : Entry) → is_load e ≡ false → fold reached_with (at state p) (filter (is_below p) (e ∷ [])) ≡ at state p
+stays p state (entries.Item place item) plain =
+    elim (int_lt place p) as (λ b. int_lt place p ≡ b → fold reached_with (at state p) (cond b (entries.Item place item ∷ []) []) ≡ at state p) [
+      | true ↦ λ is. ap (λ b. cond (b && int_lt place PLACES_END) (with_outcome (at state p) (place +ℤ pos 1) (apply_at state (unsigned_abs place) item)) (at state p)) (lower_not place p is)
       | false ↦ λ is. refl
     ] refl
-stays p image (entries.Load offset records) plain = absurd (true≢false plain)
-stays p image (entries.Pin pin) plain = refl
-stays p image (entries.Unpin pin) plain = refl
-stays p image (entries.Answer answer) plain = refl
-stays p image (entries.Stop number) plain = refl
+stays p state (entries.Load offset records) plain = absurd (true≢false plain)
+stays p state (entries.Pin pin) plain = refl
+stays p state (entries.Unpin pin) plain = refl
+stays p state (entries.Answer answer) plain = refl
+stays p state (entries.Stop number) plain = refl
 
-one_below : (p : ℤ) (image : Image) (list : List Entry) (e : Entry) → reached_below p list ≡ at image p → is_load e ≡ false → reached_below p (list ++ e ∷ []) ≡ at image p
-one_below p image list e is plain =
+one_below : (p : ℤ) (state : LogState) (list : List Entry) (e : Entry) → reached_below p list ≡ at state p → is_load e ≡ false → reached_below p (list ++ e ∷ []) ≡ at state p
+one_below p state list e is plain =
     ap (fold reached_with nothing_reached) (filter-append (is_below p) list (e ∷ []))
     ∙ fold-append reached_with nothing_reached (filter (is_below p) list) (filter (is_below p) (e ∷ []))
     ∙ ap (λ r. fold reached_with r (filter (is_below p) (e ∷ []))) is
-    ∙ stays p image e plain
+    ∙ stays p state e plain
 
-more_below : (p : ℤ) (image : Image) (list more : List Entry) → reached_below p list ≡ at image p → AllByRecursion (λ e. is_load e ≡ false) more → reached_below p (list ++ more) ≡ at image p
-more_below p image list [] is plain = ap (reached_below p) (append-nil list) ∙ is
-more_below p image list (e ∷ es) is plain = ap (reached_below p) (sym (append_assoc list (e ∷ []) es)) ∙ more_below p image (list ++ e ∷ []) es (one_below p image list e is plain.0) plain.1
+more_below : (p : ℤ) (state : LogState) (list more : List Entry) → reached_below p list ≡ at state p → AllByRecursion (λ e. is_load e ≡ false) more → reached_below p (list ++ more) ≡ at state p
+more_below p state list [] is plain = ap (reached_below p) (append-nil list) ∙ is
+more_below p state list (e ∷ es) is plain = ap (reached_below p) (sym (append_assoc list (e ∷ []) es)) ∙ more_below p state (list ++ e ∷ []) es (one_below p state list e is plain.0) plain.1
 
 -- ---- the pins have the images below their places
 
@@ -136,15 +136,19 @@ same_at l (e ∷ es) = same_at (pinned_with l e) es
 end_below : (list : List Entry) → reached_below (end_of list) list ≡ reached list
 end_below list = whole_below (end_of list) nothing_reached list (lt_itself (end_of list))
 
+abbrev state_with : Image → Option Opened → LogState
+state_with image opened = record { image = image; opened = opened }
+
+-- whatever was open at its place
 abbrev IsKept : List Entry → Pin × Image → Type 0
-IsKept list p = reached_below p.0.place list ≡ at p.1 p.0.place
+IsKept list p = (opened : Option Opened) × (reached_below p.0.place list ≡ at (state_with p.1 opened) p.0.place)
 
 abbrev AreKept : List Entry → List (Pin × Image) → Type 0
 AreKept list pinned = AllByRecursion (IsKept list) pinned
 
 all_one_more : (list : List Entry) (e : Entry) (pinned : List (Pin × Image)) → is_load e ≡ false → AreKept list pinned → AreKept (list ++ e ∷ []) pinned
 all_one_more list e [] plain kept = tt
-all_one_more list e (p ∷ ps) plain kept = (one_below p.0.place p.1 list e kept.0 plain, all_one_more list e ps plain kept.1)
+all_one_more list e (p ∷ ps) plain kept = ((kept.0.0, one_below p.0.place (state_with p.1 kept.0.0) list e kept.0.1 plain), all_one_more list e ps plain kept.1)
 
 all_filter : (list : List Entry) (q : Pin × Image → Bool) (pinned : List (Pin × Image)) → AreKept list pinned → AreKept list (filter q pinned)
 all_filter list q [] kept = tt
@@ -156,12 +160,12 @@ all_push list (x ∷ xs) p kept new = (kept.0, all_push list xs p kept.1 new)
 
 -- a pin at the end, whose image is that at the end
 pin_kept : (list : List Entry) (r : Reached) (pinned : List (Pin × Image)) (pin : Pin) → r ≡ reached list → AreKept (list ++ entries.Pin pin ∷ []) pinned → (here : Bool) → int_eq pin.place r.end ≡ here → (new : Bool)
-    → AreKept (list ++ entries.Pin pin ∷ []) (cond (here && new) (pinned ++ (pin, r.image) ∷ []) pinned)
+    → AreKept (list ++ entries.Pin pin ∷ []) (cond (here && new) (pinned ++ (pin, r.state.image) ∷ []) pinned)
 pin_kept list r pinned pin own kept true is true =
     let same : pin.place ≡ r.end = (Decides-int_eq pin.place r.end).0 is in
     let place : pin.place ≡ end_of list = same ∙ ap (λ (x : Reached). x.end) own in
-    let below : reached_below pin.place list ≡ at r.image pin.place = ap (λ z. reached_below z list) place ∙ end_below list ∙ sym own ∙ ap (λ z. at r.image z) (sym same) in
-    all_push (list ++ entries.Pin pin ∷ []) pinned (pin, r.image) kept (one_below pin.place r.image list (entries.Pin pin) below refl)
+    let below : reached_below pin.place list ≡ at r.state pin.place = ap (λ z. reached_below z list) place ∙ end_below list ∙ sym own ∙ ap (λ z. at r.state z) (sym same) in
+    all_push (list ++ entries.Pin pin ∷ []) pinned (pin, r.state.image) kept (r.state.opened, one_below pin.place r.state list (entries.Pin pin) below refl)
 pin_kept list r pinned pin own kept true is false = kept
 pin_kept list r pinned pin own kept false is new = kept
 
@@ -190,35 +194,35 @@ all_kept list = kept_more [] list tt
 -- ---- the laws
 
 pub end_image : EndImages
-end_image list = ap (λ (r : Reached). r.image) (end_below list)
+end_image list = ap (λ (r : Reached). r.state.image) (end_below list)
 
 images_of : (list : List Entry) (pinned : List (Pin × Image)) → AreKept list pinned → AllByRecursion (λ (p : Pin × Image). image_below p.0.place list ≡ p.1) pinned
 images_of list [] kept = tt
-images_of list (p ∷ ps) kept = (ap (λ (r : Reached). r.image) kept.0, images_of list ps kept.1)
+images_of list (p ∷ ps) kept = (ap (λ (r : Reached). r.state.image) kept.0.1, images_of list ps kept.1)
 
 pub pin_images : PinImages
 pin_images list = images_of list (pinned_log list).pinned (all_kept list)
 
 -- one of the pins is of the place
-of_place : (list : List Entry) (place : ℤ) (pinned : List (Pin × Image)) → AreKept list pinned → list_any (λ pin. int_eq pin.place place) (pins_in pinned) ≡ true → (image : Image) × (reached_below place list ≡ at image place)
+of_place : (list : List Entry) (place : ℤ) (pinned : List (Pin × Image)) → AreKept list pinned → list_any (λ pin. int_eq pin.place place) (pins_in pinned) ≡ true → (state : LogState) × (reached_below place list ≡ at state place)
 of_place list place [] kept any = absurd (true≢false (sym any))
 of_place list place (p ∷ ps) kept any =
-    elim (int_eq p.0.place place) as (λ b. int_eq p.0.place place ≡ b → (b || list_any (λ pin. int_eq pin.place place) (pins_in ps)) ≡ true → (image : Image) × (reached_below place list ≡ at image place)) [
-      | true ↦ λ is h. (p.1, subst (λ z. reached_below z list ≡ at p.1 z) ((Decides-int_eq p.0.place place).0 is) kept.0)
+    elim (int_eq p.0.place place) as (λ b. int_eq p.0.place place ≡ b → (b || list_any (λ pin. int_eq pin.place place) (pins_in ps)) ≡ true → (state : LogState) × (reached_below place list ≡ at state place)) [
+      | true ↦ λ is h. let state = state_with p.1 kept.0.0 in (state, subst (λ z. reached_below z list ≡ at state z) ((Decides-int_eq p.0.place place).0 is) kept.0.1)
       | false ↦ λ is h. of_place list place ps kept.1 h
     ] refl any
 
-kept_at_place : (list : List Entry) (place : ℤ) (here : Bool) → int_eq place (pinned_log list).at.end ≡ here → (here || list_any (λ pin. int_eq pin.place place) (pins_of list)) ≡ true → (image : Image) × (reached_below place list ≡ at image place)
+kept_at_place : (list : List Entry) (place : ℤ) (here : Bool) → int_eq place (pinned_log list).at.end ≡ here → (here || list_any (λ pin. int_eq pin.place place) (pins_of list)) ≡ true → (state : LogState) × (reached_below place list ≡ at state place)
 kept_at_place list place true is any =
     let own : (pinned_log list).at ≡ reached list = same_at nothing_pinned list in
     let end : place ≡ end_of list = (Decides-int_eq place (pinned_log list).at.end).0 is ∙ ap (λ (x : Reached). x.end) own in
-    ((reached list).image, ap (λ z. reached_below z list) end ∙ end_below list ∙ ap (λ z. at (reached list).image z) (sym end))
+    ((reached list).state, ap (λ z. reached_below z list) end ∙ end_below list ∙ ap (λ z. at (reached list).state z) (sym end))
 kept_at_place list place false is any = of_place list place (pinned_log list).pinned (all_kept list) any
 
 pub images_stay : KeptImagesStay
 images_stay list more place kept plain =
     let k = kept_at_place list place (int_eq place (pinned_log list).at.end) refl kept in
-    ap (λ (r : Reached). r.image) (more_below place k.0 list more k.1 plain ∙ sym k.1)
+    ap (λ (r : Reached). r.state.image) (more_below place k.0 list more k.1 plain ∙ sym k.1)
 
 -- ---- a pin stays
 
@@ -259,8 +263,8 @@ has_more : (pin : Pin) (l : PinnedLog) (e : Entry) → Has pin l → unpins pin 
 has_more pin l (entries.Item place item) has plain = has
 has_more pin l (entries.Load offset records) has plain = absurd (true≢false plain)
 has_more pin l (entries.Pin other) has plain =
-    elim (int_eq other.place l.at.end && not (is_pinned (pins_in l.pinned) other)) as (λ b. is_pinned (pins_in (cond b (l.pinned ++ (other, l.at.image) ∷ []) l.pinned)) pin ≡ true) [
-      | true ↦ any_left (is_same_pin pin) l.pinned ((other, l.at.image) ∷ []) has
+    elim (int_eq other.place l.at.end && not (is_pinned (pins_in l.pinned) other)) as (λ b. is_pinned (pins_in (cond b (l.pinned ++ (other, l.at.state.image) ∷ []) l.pinned)) pin ≡ true) [
+      | true ↦ any_left (is_same_pin pin) l.pinned ((other, l.at.state.image) ∷ []) has
       | false ↦ has
     ]
 has_more pin l (entries.Unpin other) has plain = any_filtered other pin l.pinned plain has
@@ -273,10 +277,10 @@ has_all pin l (e ∷ es) has plain = has_all pin (pinned_with l e) es (has_more 
 
 has_new : (pin : Pin) (l : PinnedLog) → int_eq pin.place l.at.end ≡ true → Has pin (pinned_with l (entries.Pin pin))
 has_new pin l here =
-    ap (λ b. is_pinned (pins_in (cond (b && not (is_pinned (pins_in l.pinned) pin)) (l.pinned ++ (pin, l.at.image) ∷ []) l.pinned)) pin) here
-    ∙ elim (is_pinned (pins_in l.pinned) pin) as (λ b. is_pinned (pins_in l.pinned) pin ≡ b → is_pinned (pins_in (cond (not b) (l.pinned ++ (pin, l.at.image) ∷ []) l.pinned)) pin ≡ true) [
+    ap (λ b. is_pinned (pins_in (cond (b && not (is_pinned (pins_in l.pinned) pin)) (l.pinned ++ (pin, l.at.state.image) ∷ []) l.pinned)) pin) here
+    ∙ elim (is_pinned (pins_in l.pinned) pin) as (λ b. is_pinned (pins_in l.pinned) pin ≡ b → is_pinned (pins_in (cond (not b) (l.pinned ++ (pin, l.at.state.image) ∷ []) l.pinned)) pin ≡ true) [
       | true ↦ λ is. is
-      | false ↦ λ is. any_last (is_same_pin pin) l.pinned (pin, l.at.image) (same_itself pin)
+      | false ↦ λ is. any_last (is_same_pin pin) l.pinned (pin, l.at.state.image) (same_itself pin)
     ] refl
 
 of_one_place : (pin x : Pin) → is_same_pin pin x ≡ true → int_eq x.place pin.place ≡ true

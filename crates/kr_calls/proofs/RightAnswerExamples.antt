@@ -4,6 +4,7 @@ use Rattle.std.proofs.Common.{arith, refl}
 use Rattle.kr_defs.specs.declared.record.Item.TheVariants as items
 use Rattle.kr_defs.specs.declared.record.Record.TheVariants as kinds
 use Rattle.kr_defs.specs.Apply.{apply, apply_record}
+use Rattle.kr_defs.specs.LogStates.{apply_at}
 use Rattle.kr_calls.specs.declared.errors.TheConstants.{BROKER_ID_NOT_REGISTERED, NOT_CONTROLLER}
 use Rattle.kr_calls.specs.declared.answers.Answer.{Answer}
 use Rattle.kr_calls.specs.declared.answers.AnswerKind.{AnswerKind}
@@ -48,7 +49,7 @@ records_there = ((0, omega arith, refl), ((1, omega arith, refl), tt))
 
 -- behind that the broker isn't known, and there is no record
 stands_without_records : IsRight options (registered ∷ taken_out ∷ []) (answer answer_kinds.Stands (pos 2) (Some (answered (pos 2) 0 BROKER_ID_NOT_REGISTERED)))
-unfolding apply apply_record work_of unregister_broker.decided done taken
+unfolding apply apply_at apply_record work_of unregister_broker.decided done taken
 stands_without_records = (record { seat = refl; ticket = refl; place = refl; floor = refl }, record { count = refl; records = tt; reply = refl })
 
 -- what was appended and lost is refused, whatever the rules say

@@ -1,6 +1,6 @@
--- What a client's seat has seen: a list of entries, with the image and the end of its log, the places that are kept, what each
--- seat was told, and the first stop. This project's own.
-use Rattle.std.specs.Prelude.{◌+ℤ◌, ℕ, ℤ, pos, int_lt, Bool, true, false, not, ◌&&◌, ◌==◌, nat_lt, List, [], ◌∷◌, ◌++◌, ◌||◌, Option, Some, None, Result, Ok, Err, fold, filter, map, if◌then◌else◌}
+-- What a client's seat has seen: a list of entries, with the state and the end of its log, the places that are kept, what each
+-- seat was told, and the first stop. This project's own, but for the state, in which a transaction may be open (KIP-868).
+use Rattle.std.specs.Prelude.{◌≡◌, ◌+ℤ◌, ℕ, ℤ, pos, int_lt, unsigned_abs, Bool, true, false, not, ◌&&◌, ◌==◌, nat_lt, List, [], ◌∷◌, ◌++◌, ◌||◌, Option, Some, None, Result, Ok, Err, fold, filter, map, if◌then◌else◌}
 use Rattle.std.specs.List.{list_any}
 use Rattle.std.specs.Ordering.{int_eq}
 use Rattle.kr_base.specs.Causes.{raised}
@@ -8,8 +8,8 @@ use Rattle.kr_defs.specs.declared.ill.Ill.{Ill}
 use Rattle.kr_defs.specs.declared.limits.TheConstants.{PLACES_END}
 use Rattle.kr_defs.specs.declared.record.Item.{Item}
 use Rattle.kr_defs.specs.declared.record.Record.{Record}
-use Rattle.kr_defs.specs.Apply.{apply}
 use Rattle.kr_defs.specs.Image.{Image, empty}
+use Rattle.kr_defs.specs.LogStates.{LogState, apply_at, closed}
 use Rattle.kr_calls.specs.declared.events.Entry.{Entry}
 use Rattle.kr_calls.specs.declared.events.Entry.TheVariants as entries
 use Rattle.kr_calls.specs.declared.pins.Pin.{Pin}
@@ -24,25 +24,30 @@ abbrev pub item_entries : ℤ → List Item → List Entry
 item_entries place [] = []
 item_entries place (item ∷ items) = entries.Item place item ∷ item_entries (place +ℤ pos 1) items
 
--- the image, and the place of the next item
+-- the state, and the place of the next item
 pub record Reached : Type 0 where
-  pub image : Image
+  pub state : LogState
   pub end : ℤ
 
 abbrev pub nothing_reached : Reached
-nothing_reached = record { image = empty; end = pos 0 }
+nothing_reached = record { state = closed empty; end = pos 0 }
 
 -- what has no meaning changes nothing
-abbrev pub with_image : Reached → ℤ → Result Image Ill → Reached
-with_image r end (Ok image) = record { image = image; end = end }
-with_image r end (Err cause) = r
+abbrev pub with_outcome : Reached → ℤ → Result LogState Ill → Reached
+with_outcome r end (Ok state) = record { state = state; end = end }
+with_outcome r end (Err cause) = r
 
 -- an item counts where it stands at the end
 abbrev pub with_item : Reached → ℤ → Item → Reached
 with_item r place item =
-    if int_eq place r.end && int_lt place PLACES_END then with_image r (place +ℤ pos 1) (apply r.image item) else r
+    if int_eq place r.end && int_lt place PLACES_END then with_outcome r (place +ℤ pos 1) (apply_at r.state (unsigned_abs place) item) else r
 
--- an image in place of all counts where it isn't below the end
+-- no transaction is open in an image in place of all
+abbrev pub with_image : Reached → ℤ → Result Image Ill → Reached
+with_image r end (Ok image) = record { state = closed image; end = end }
+with_image r end (Err cause) = r
+
+-- it counts where it isn't below the end
 abbrev pub with_load : Reached → ℤ → List Record → Reached
 with_load r offset records =
     if not (int_lt offset r.end) && int_lt offset PLACES_END then with_image r offset (apply_records empty records) else r
@@ -60,10 +65,14 @@ abbrev pub reached : List Entry → Reached
 reached list = fold reached_with nothing_reached list
 
 abbrev pub image_of : List Entry → Image
-image_of list = (reached list).image
+image_of list = (reached list).state.image
 
 abbrev pub end_of : List Entry → ℤ
 end_of list = (reached list).end
+
+-- no transaction is open at the end
+abbrev pub IsClosedList : List Entry → Type 0
+IsClosedList list = (reached list).state.opened ≡ None
 
 -- items below the place, and images that stand not above it
 abbrev pub is_below : ℤ → Entry → Bool
@@ -103,7 +112,7 @@ abbrev pub is_new_pin : Reached → List (Pin × Image) → Pin → Bool
 is_new_pin r pinned pin = int_eq pin.place r.end && not (is_pinned (pins_in pinned) pin)
 
 abbrev pub with_pin : Reached → List (Pin × Image) → Pin → List (Pin × Image)
-with_pin r pinned pin = if is_new_pin r pinned pin then pinned ++ (pin, r.image) ∷ [] else pinned
+with_pin r pinned pin = if is_new_pin r pinned pin then pinned ++ (pin, r.state.image) ∷ [] else pinned
 
 abbrev pub without_pin : List (Pin × Image) → Pin → List (Pin × Image)
 without_pin pinned pin = filter (λ (p : Pin × Image). not (is_same_pin pin p.0)) pinned

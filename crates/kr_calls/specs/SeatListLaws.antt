@@ -1,21 +1,21 @@
 -- What is true of lists of entries, whatever they are. This project's own.
-use Rattle.std.specs.Prelude.{◌≡◌, ◌+ℤ◌, ◌≤ℤ◌, ℤ, pos, Bool, true, false, List, ◌∷◌, ◌++◌, length, Ok, fold, IsTrue}
+use Rattle.std.specs.Prelude.{◌≡◌, ◌+◌, ◌≤ℤ◌, ℕ, ℤ, pos, Bool, true, false, List, ◌∷◌, ◌++◌, length, Ok, fold, IsTrue}
 use Rattle.std.specs.List.{AllByRecursion}
 use Rattle.kr_defs.specs.declared.limits.TheConstants.{PLACES_END}
 use Rattle.kr_defs.specs.declared.record.Item.{Item}
 use Rattle.kr_defs.specs.Image.{Image}
-use Rattle.kr_defs.specs.Log.{apply_all}
+use Rattle.kr_defs.specs.LogStates.{LogState, apply_all_at}
 use Rattle.kr_calls.specs.declared.events.Entry.{Entry}
 use Rattle.kr_calls.specs.declared.events.Entry.TheVariants as entries
 use Rattle.kr_calls.specs.declared.pins.Pin.{Pin}
-use Rattle.kr_calls.specs.SeatList.{Reached, end_of, image_below, image_of, is_kept_in, is_load, is_pinned, is_same_pin, item_entries, pinned_log, pins_of, reached_with}
+use Rattle.kr_calls.specs.SeatList.{end_of, image_below, image_of, is_kept_in, is_load, is_pinned, is_same_pin, item_entries, pinned_log, pins_of, reached_with}
 
--- Items one behind the other from the end on, which all have a meaning and a place, all count: the image is what they make
--- of it one after the other, and the end is behind the last of them.
+-- Items one behind the other from the end on, which all have a meaning and a place, all count: the state is what they make of it
+-- one after the other, and the end is behind the last of them.
 abbrev pub ItemsInOrderCount : Type 0
 ItemsInOrderCount =
-    (r : Reached) (items : List Item) (image : Image) → apply_all r.image items ≡ Ok image → (r.end +ℤ pos (length items)) ≤ℤ PLACES_END
-    → fold reached_with r (item_entries r.end items) ≡ record { image = image; end = r.end +ℤ pos (length items) }
+    (state after : LogState) (place : ℕ) (items : List Item) → apply_all_at state place items ≡ Ok after → pos (place + length items) ≤ℤ PLACES_END
+    → fold reached_with (record { state = state; end = pos place }) (item_entries (pos place) items) ≡ record { state = after; end = pos (place + length items) }
 
 -- ---- kept places
 

@@ -1,7 +1,6 @@
 -- A log from its start, and what RemoveTopic leaves.
-use Rattle.std.proofs.Common.{◌≡◌, ◌∙◌, sym, subst, ℕ, suc, ◌+◌, ◌-◌, ◌≤◌, ◌<◌, ℤ, pos, ◌+ℤ◌, false, List, [], ◌∷◌, ◌++◌, length, take, refl, ap, arith}
-use Rattle.std.specs.Prelude.{Option, Result, Ok, Err, None, Some, IfSome, IsOk, All, IsTrue, not, ◌==◌, filter}
-use Rattle.std.proofs.lemmas.List.{take-append-le, take_all, length-append}
+use Rattle.std.proofs.Common.{◌≡◌, ◌∙◌, sym, subst, ℕ, suc, ◌+◌, ◌≤◌, ◌<◌, ℤ, pos, ◌+ℤ◌, false, List, [], ◌∷◌, length, take, refl, ap, arith}
+use Rattle.std.specs.Prelude.{Result, Ok, Err, Some, IfSome, IsOk, All, IsTrue, not, ◌==◌, filter}
 use Rattle.std.proofs.lemmas.List.Elements.{filter_passes}
 use Rattle.std.specs.Option.{option_map}
 use Rattle.std.specs.Result.{result_err}
@@ -13,10 +12,12 @@ use Rattle.kr_defs.specs.declared.ill.Ill.{Ill}
 use Rattle.kr_defs.specs.declared.ill.Ill.TheVariants.{NoTopic}
 use Rattle.kr_defs.specs.Guard.{and_then}
 use Rattle.kr_defs.specs.Image.{Image, IsValid, has_topic, topic_name}
-use Rattle.kr_defs.specs.Log.{Log, tip, more, apply_all, image_at, ill_or, first_ill, IsBehindGood}
+use Rattle.kr_defs.specs.Log.{Log, tip, more, apply_all, image_at, state_image, state_at, ill_or, first_ill, IsBehindGood}
+use Rattle.kr_defs.specs.LogStates.{LogState, IsValidState}
 use Rattle.kr_defs.specs.Apply as apply
 use Rattle.kr_defs.proofs.Validity.{kept}
 use Rattle.kr_defs.proofs.ImageParts.{has_topic_any, none_left}
+use Rattle.kr_defs.proofs.StateLogs.{if_some_then, ok_is, plain_at, state_at_start, state_more_at_tip, state_more_below, valid_state_at}
 use Rattle.kr_defs.proofs.Tests.{Gives, gives_done, gives_found, gives_then, some_is}
 
 -- ---- logs
@@ -25,41 +26,28 @@ pub kept_all : (items : List Item) (image : Image) → IsValid image → Gives I
 kept_all [] image v = gives_done IsValid image v
 kept_all (item ∷ items) image v = gives_then IsValid IsValid (apply.apply image item) (λ after. apply_all after items) (kept image v item) (λ after w. kept_all items after w)
 
-then_done : {X E : Type 0} (r : Result X E) → and_then r (λ x. Ok x) ≡ r
-then_done (Ok x) = refl
-then_done (Err e) = refl
-
-then_more : (r : Result Image Ill) (items : List Item) (item : Item) → ((after : Image) → apply_all after (items ++ item ∷ []) ≡ and_then (apply_all after items) (λ i. apply.apply i item))
-    → and_then r (λ after. apply_all after (items ++ item ∷ [])) ≡ and_then (and_then r (λ after. apply_all after items)) (λ i. apply.apply i item)
-then_more (Ok after) items item step = step after
-then_more (Err cause) items item step = refl
-
-apply_more : (items : List Item) (item : Item) (image : Image) → apply_all image (items ++ item ∷ []) ≡ and_then (apply_all image items) (λ i. apply.apply i item)
-apply_more [] item image = then_done (apply.apply image item)
-apply_more (first ∷ items) item image = then_more (apply.apply image first) items item (apply_more items item)
-
 pub valid_at : (log : Log) (place : ℕ) → IsValid log.image → Gives IsValid (image_at log place)
 unfolding image_at
-valid_at log place v = kept_all (take (place - log.offset) log.items) log.image v
+valid_at log place v = gives_then IsValidState IsValid (state_at log place) (λ s. Ok s.image) (valid_state_at log place v) (λ s w. gives_done IsValid s.image w.image)
 
 pub at_start : (log : Log) → image_at log log.offset ≡ Ok log.image
 unfolding image_at
-at_start log = let zero : log.offset - log.offset ≡ 0 = omega arith in rw zero refl
+at_start log = ap state_image (state_at_start log)
 
-at_tip : (log : Log) → image_at log (tip log) ≡ apply_all log.image log.items
-unfolding image_at
-at_tip log = ap (λ (items : List Item). apply_all log.image items) (take_all (tip log - log.offset) log.items (omega arith))
+more_at_tip_of : (log : Log) (item : Item) (image after : Image) (there : Result LogState Ill) → state_at log (tip log) ≡ there → state_image there ≡ Ok image → apply.apply image item ≡ Ok after → state_image (state_at (more log item) (tip log + 1)) ≡ Ok after
+more_at_tip_of log item image after (Err cause) at is takes = absurd cc
+more_at_tip_of log item image after (Ok state) at is takes =
+    let same : state.image ≡ image = ok_is state.image image is in
+    ap state_image (state_more_at_tip log item state at ∙ plain_at state (tip log) item after (ap (λ i. apply.apply i item) same ∙ takes))
 
-pub more_at_tip : (log : Log) (item : Item) (image : Image) → image_at log (tip log) ≡ Ok image → image_at (more log item) (tip log + 1) ≡ apply.apply image item
+-- an item that an image takes
+pub more_at_tip : (log : Log) (item : Item) (image after : Image) → image_at log (tip log) ≡ Ok image → apply.apply image item ≡ Ok after → image_at (more log item) (tip log + 1) ≡ Ok after
 unfolding image_at
-more_at_tip log item image is =
-    let long : length (log.items ++ item ∷ []) ≡ length log.items + 1 = length-append log.items (item ∷ []) in
-    let whole = take_all (tip log + 1 - log.offset) (log.items ++ item ∷ []) (omega (arith, long)) in
-    ap (λ (items : List Item). apply_all log.image items) whole ∙ (apply_more log.items item log.image ∙ ap (λ r. and_then r (λ i. apply.apply i item)) (sym (at_tip log) ∙ is))
+more_at_tip log item image after is takes = more_at_tip_of log item image after (state_at log (tip log)) refl is takes
 
 pub more_below : (log : Log) (item : Item) (place : ℕ) → place ≤ tip log → image_at (more log item) place ≡ image_at log place
 unfolding image_at
-more_below log item place below = ap (λ (items : List Item). apply_all log.image items) (take-append-le (place - log.offset) log.items (item ∷ []) (omega arith))
+more_below log item place below = ap state_image (state_more_below log item place below)
 
 -- ---- RemoveTopic
 
@@ -90,10 +78,6 @@ cause_of (Err cause) place items step = refl
 pub cause_named : (items : List Item) (image : Image) (place : ℤ) → option_map (λ (i : ℤ × Ill). i.1) (first_ill image place items) ≡ result_err (apply_all image items)
 cause_named [] image place = refl
 cause_named (item ∷ items) image place = cause_of (apply.apply image item) place items (λ after. cause_named items after (place +ℤ pos 1))
-
-if_some_then : {X : Type 0} (P Q : X → Type 0) (o : Option X) → ((x : X) → P x → Q x) → IfSome o P → IfSome o Q
-if_some_then P Q None step p = tt
-if_some_then P Q (Some x) step p = step x p
 
 one_further : (image after : Image) (place : ℤ) (item : Item) (items : List Item) → apply.apply image item ≡ Ok after
     → (ill : ℤ × Ill) → IsBehindGood after (place +ℤ pos 1) items ill → IsBehindGood image place (item ∷ items) ill

@@ -16,6 +16,7 @@ pub mod ImageOrder
 pub mod KeptLaws
 pub mod KeptMaps
 pub mod Log
+pub mod LogStates
 pub mod Lookups
 pub mod Map
 pub mod MapLaws

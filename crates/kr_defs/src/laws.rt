@@ -46,11 +46,13 @@ pub fn removed_whole()
         topic_name image.topics id ≡ Some name → apply.HasNoSettingOf name after }
 {}
 
-/// The image at the tip of a log that is longer by one item is what the item makes of the image before. Below, nothing changes.
+/// The image at the tip of a log that is longer by one item is what the item makes of the image before, where it has a meaning
+/// for an image. Below, nothing changes.
 pub fn one_item_more()
     ensures start { (log : Log) → image_at log log.offset ≡ Ok log.image }
-    ensures tip { (log : Log) (item : AnyItem) (image : Image) → image_at log (tip log) ≡
-        Ok image → image_at (more log item) (tip log + 1) ≡ apply.apply image item }
+    ensures tip { (log : Log) (item : AnyItem) (image after : Image) → image_at log (tip log) ≡
+        Ok image → apply.apply image item ≡ Ok after → image_at (more log item) (tip log + 1) ≡
+        Ok after }
     ensures below { (log : Log) (item : AnyItem) (place : ℕ) → place ≤ tip log →
         image_at (more log item) place ≡ image_at log place }
 {}

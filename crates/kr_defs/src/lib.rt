@@ -23,6 +23,7 @@ mod partition_laws;
 mod record;
 mod rows;
 mod settings;
+pub mod state_laws;
 mod text;
 mod texts;
 

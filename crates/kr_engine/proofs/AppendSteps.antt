@@ -1,9 +1,9 @@
 -- What a leader's records make of an engine.
-use Rattle.std.proofs.Common.{◌≡◌, ◌∙◌, sym, subst, ℕ, ℤ, pos, Bool, true, false, cond, ◌+◌, ◌≤◌, List, [], ◌∷◌, ◌++◌, map, length, refl, ap, arith, All}
+use Rattle.std.proofs.Common.{◌≡◌, ◌∙◌, sym, subst, ℕ, ℤ, pos, Bool, true, false, cond, ◌+◌, ◌≤◌, ◌<◌, List, [], ◌∷◌, ◌++◌, map, length, refl, ap, arith, All}
 use Rattle.std.proofs.Math.IntN.{+ℤ_idr}
 use Rattle.std.proofs.lemmas.List.{append-nil, length-map}
 use Rattle.std.specs.Prelude.{◌+ℤ◌, ◌==◌, Option, None, Result, Ok, filter, int_le, unsigned_abs, IsSome}
-use Rattle.std.specs.List.{list_all}
+use Rattle.std.specs.List.{AllByRecursion, list_all}
 use Rattle.kr_batch.specs.BatchBytes.{batch_bytes}
 use Rattle.kr_calls.specs.declared.events.Output.TheVariants as given
 use Rattle.kr_calls.specs.Deciding.{apply_records, weights}
@@ -17,21 +17,25 @@ use Rattle.kr_defs.specs.Heartbeats as hearing
 use Rattle.kr_defs.specs.Heartbeats.{Heartbeats}
 use Rattle.kr_defs.specs.Image.{Image, IsValid}
 use Rattle.kr_defs.specs.ImageLaws.{as_items}
-use Rattle.kr_defs.specs.Log.{Log, apply_all, image_at, tip}
+use Rattle.kr_defs.specs.Log.{Log, apply_all, image_at, open_at, tip}
 use Rattle.law_safety.specs.HearingLaws.{HearsOf}
-use Rattle.kr_store.specs.Images.{Images, marked}
+use Rattle.kr_store.specs.Images.{Images, IsSettled, begun_under, marked, tip_state}
 use Rattle.kr_model.specs.declared.writes.Write.{Write}
-use Rattle.kr_model.specs.Engine.{Core, IsEngine, Rise, writes_in_order, kept_image}
+use Rattle.kr_model.specs.Engine.{Core, IsEngine, Rise, writes_in_order, kept_begin, kept_image, kept_places}
 use Rattle.kr_model.specs.Entries.{item_entries}
 use Rattle.kr_model.specs.Outputs.{is_open}
-use Rattle.kr_model.specs.World.{State, World, image_of_tip, tip_of, with_records, log_with}
-use Rattle.kr_model.specs.Weights.{IsWeighed, item_weights}
+use Rattle.kr_model.specs.World.{State, World, closed_of, image_of_tip, tip_of, with_records, log_with}
+use Rattle.kr_model.specs.Weights.{IsWeighed, weight_settled}
 use Rattle.kr_engine.specs.inner.Append.{CallsAreCounted, Writes, core_after_append, batch_at, place_behind}
-use Rattle.kr_model.proofs.LongerLogs.{kept_then, present_then, rise_more}
+use Rattle.kr_model.proofs.KeptImages.{not_higher}
+use Rattle.kr_model.proofs.LongerLogs.{rise_more}
 use Rattle.kr_model.proofs.LogEntries.{batch_written, not_none}
-use Rattle.kr_model.proofs.Logs.{tip_written, as_records}
+use Rattle.kr_model.proofs.Logs.{as_records, open_still, tip_written}
 use Rattle.kr_model.proofs.Queues.{never}
-use Rattle.kr_model.proofs.Weights.{weighed_behind, weights_of_records}
+use Rattle.kr_engine.proofs.KeptPlaces.{last_added}
+use Rattle.kr_engine.proofs.KeptStates.{Keeps, engine_keeps, keeps_state, place_of, records_kept, tip_kept}
+use Rattle.kr_engine.proofs.LongerWorlds.{BegunBelow, begins_so, begun_more, closed_same, kept_so, none_below, settled_so, still_begun, weighed_so, world_with}
+use Rattle.kr_engine.proofs.ReadyEngines.{settled_leader}
 
 -- ---- the engine
 
@@ -43,10 +47,12 @@ abbrev behind : Core → List Write → Heartbeats → Core
 behind e held heard = record e { held = held; heard = heard }
 
 none_written : (e : Core) (images : Images) (heard heard' : Heartbeats) (held : List Write) → images.kept ≡ e.images.kept → images.made ≤ e.images.made + weights e.images.tip [] → images.kept_made ≡ e.images.kept_made
-    → apply_records e.images.tip [] ≡ Ok images.tip → Writes e (behind (core_after_append (between e images heard) []) held heard') []
-none_written e images heard heard' held kept made calls meaning = record {
+    → images.kept_begun ≡ e.images.kept_begun → (IsSettled e.images → IsSettled images) → apply_records e.images.tip [] ≡ Ok images.tip → Writes e (behind (core_after_append (between e images heard) []) held heard') []
+none_written e images heard heard' held kept made calls begins settled meaning = record {
   meaning = meaning;
   kept = kept;
+  begins = begins;
+  settled = settled;
   counted = (omega (arith, made), calls);
   few = omega arith;
   same =
@@ -67,13 +73,20 @@ module _ (e : Core) (images : Images) (heard heard' : Heartbeats) (held : List W
     fresh = e.fresh ++ item_entries e.tip (as_items all);
   })) held heard'
 
-  some_written : images.kept ≡ e.images.kept → images.made ≤ e.images.made + weights e.images.tip all → images.kept_made ≡ e.images.kept_made → apply_records e.images.tip all ≡ Ok images.tip → length all ≤ 10000
+  settled_behind : IsSettled images → IsSettled (marked images (place_behind e all))
+  settled_behind s = record { tip = s.tip; last = ap begun_under (last_added images.kept_begun (place_behind e all, images.begun)) ∙ s.tip }
+
+  some_written : images.kept ≡ e.images.kept → images.made ≤ e.images.made + weights e.images.tip all → images.kept_made ≡ e.images.kept_made → images.kept_begun ≡ e.images.kept_begun → (IsSettled e.images → IsSettled images)
+      → apply_records e.images.tip all ≡ Ok images.tip → length all ≤ 10000
       → Writes e (behind (core_after_append (between e images heard) all) held heard') all
-  some_written kept made calls meaning few =
+  some_written kept made calls begins settled meaning few =
       let has = sym (not_none (length records)) in record {
         meaning = subst (λ b. apply_records e.images.tip all ≡ Ok (after_by b).images.tip) has meaning;
         kept = subst (λ b. (after_by b).images.kept ≡ cond b e.images.kept (e.images.kept ++ (place_behind e all, (after_by b).images.tip) ∷ [])) has
             (ap (λ (kept : List (ℤ × Image)). kept ++ (place_behind e all, images.tip) ∷ []) kept);
+        begins = subst (λ b. (after_by b).images.kept_begun ≡ cond b e.images.kept_begun (e.images.kept_begun ++ (place_behind e all, (after_by b).images.begun) ∷ [])) has
+            (ap (λ (bs : List (ℤ × Option ℤ)). bs ++ (place_behind e all, images.begun) ∷ []) begins);
+        settled = λ before. subst (λ b. IsSettled (after_by b).images) has (settled_behind (settled before));
         counted = subst (λ b. CallsAreCounted e.images (after_by b).images (place_behind e all) all) has
             (refl, (images.made, made, ap (λ (ms : List (ℤ × ℕ)). ms ++ (place_behind e all, images.made) ∷ []) calls));
         few = few;
@@ -89,52 +102,83 @@ module _ (e : Core) (images : Images) (heard heard' : Heartbeats) (held : List W
 
 pub writes_by : (e between' after : Core) (records : List Record) → between' ≡ record e { images = between'.images; heard = between'.heard } → between'.images.kept ≡ e.images.kept
     → between'.images.made ≤ e.images.made + weights e.images.tip records → between'.images.kept_made ≡ e.images.kept_made
-    → apply_records e.images.tip records ≡ Ok between'.images.tip → length records ≤ 10000
+    → between'.images.kept_begun ≡ e.images.kept_begun → (IsSettled e.images → IsSettled between'.images) → apply_records e.images.tip records ≡ Ok between'.images.tip → length records ≤ 10000
     → after ≡ record (core_after_append between' records) { held = after.held; heard = after.heard } → Writes e after records
-writes_by e between' after [] same kept made calls meaning few is =
+writes_by e between' after [] same kept made calls begins settled meaning few is =
     subst (λ (a : Core). Writes e a []) (sym (is ∙ ap (λ (b : Core). record (core_after_append b []) { held = after.held; heard = after.heard }) same))
-    (none_written e between'.images between'.heard after.heard after.held kept made calls meaning)
-writes_by e between' after (r ∷ records) same kept made calls meaning few is =
+    (none_written e between'.images between'.heard after.heard after.held kept made calls begins settled meaning)
+writes_by e between' after (r ∷ records) same kept made calls begins settled meaning few is =
     subst (λ (a : Core). Writes e a (r ∷ records)) (sym (is ∙ ap (λ (b : Core). record (core_after_append b (r ∷ records)) { held = after.held; heard = after.heard }) same))
-    (some_written e between'.images between'.heard after.heard after.held r records kept made calls meaning few)
+    (some_written e between'.images between'.heard after.heard after.held r records kept made calls begins settled meaning few)
 
 -- ---- the state
 
--- what the records leave of the world and the engine that stands for it
-pub record IsLonger (e after : Core) (s : State) (records : List Record) : Type 0 where
-  pub tip_is : after.tip ≡ pos (tip (with_records s.world records).log)
-  pub start : (with_records s.world records).log.offset ≤ s.world.committed
-  pub committed_is : (with_records s.world records).committed ≡ s.world.committed
-  pub leading_is : (with_records s.world records).leading ≡ s.world.leading
-  pub greatest_is : (with_records s.world records).greatest ≡ s.world.greatest
-  pub count_of : (with_records s.world records).count ≡ s.world.count
-  pub present : image_at (with_records s.world records).log (tip (with_records s.world records).log) ≡ Ok after.images.tip
-  pub kept : after.images.kept ≡ map (kept_image (with_records s.world records).log) ((with_records s.world records).committed ∷ (with_records s.world records).batch_ends)
-  pub weighed : IsWeighed after.images (with_records s.world records).log (with_records s.world records).committed (with_records s.world records).batch_ends
-  pub ends : Rise (with_records s.world records).committed (with_records s.world records).batch_ends (tip (with_records s.world records).log)
-  pub higher : tip (with_records s.world records).log ≡ tip_of s + length records
+-- what a world has of the records that an engine has written
+pub record HasWritten (after : Core) (s : State) (v : World) (count : ℕ) : Type 0 where
+  pub tip_is : after.tip ≡ pos (tip v.log)
+  pub start : v.log.offset ≤ s.world.committed
+  pub committed_is : v.committed ≡ s.world.committed
+  pub closed_is : closed_of v ≡ closed_of s.world
+  pub leading_is : v.leading ≡ s.world.leading
+  pub greatest_is : v.greatest ≡ s.world.greatest
+  pub count_of : v.count ≡ s.world.count
+  pub present : image_at v.log (tip v.log) ≡ Ok after.images.tip
+  pub decided : open_at v.log (tip v.log) ≡ None
+  pub begun : after.images.begun ≡ place_of (open_at v.log (tip v.log))
+  pub kept : after.images.kept ≡ map (kept_image v.log) (kept_places v)
+  pub kept_begun : after.images.kept_begun ≡ map (kept_begin v.log) (kept_places v)
+  pub weighed : IsWeighed after.images v.log (closed_of v) (weight_settled v.log v.committed) (v.covered ++ v.batch_ends)
+  pub settled : Rise (closed_of v) v.covered v.committed
+  pub ends : Rise v.committed v.batch_ends (tip v.log)
+  pub begins : AllByRecursion (BegunBelow v.log v.committed) v.batch_ends
+  pub higher : tip v.log ≡ tip_of s + count
+
+abbrev pub IsLonger : Core → State → List Record → Type 0
+IsLonger after s records = HasWritten after s (with_records s.world records) (length records)
 
 pub ok_is : (image after : Image) → apply_records image [] ≡ Ok after → after ≡ image
 ok_is image after is = ap (λ (r : Result Image Ill). Rattle.std.specs.Result.result_unwrap_or r image) (sym is)
 
-module _ (e after : Core) (s : State) (writes : List Write) (k : IsEngine e s writes) where
-  none_longer : Writes e after [] → IsLonger e after s []
+same_images : (a b : Images) → a.kept ≡ b.kept → a.made ≡ b.made → a.kept_made ≡ b.kept_made → a.kept_begun ≡ b.kept_begun → a.tip ≡ b.tip → a.begun ≡ b.begun → a ≡ b
+same_images a b kept made calls begins tip begun =
+    ap (λ (k : List (ℤ × Image)). record a { kept = k }) kept
+    ∙ (ap (λ n. record a { kept = b.kept; made = n }) made
+    ∙ (ap (λ (ms : List (ℤ × ℕ)). record a { kept = b.kept; made = b.made; kept_made = ms }) calls
+    ∙ (ap (λ (bs : List (ℤ × Option ℤ)). record a { kept = b.kept; made = b.made; kept_made = b.kept_made; kept_begun = bs }) begins
+    ∙ (ap (λ (i : Image). record a { kept = b.kept; made = b.made; kept_made = b.kept_made; kept_begun = b.kept_begun; tip = i }) tip
+    ∙ ap (λ (o : Option ℤ). record a { kept = b.kept; made = b.made; kept_made = b.kept_made; kept_begun = b.kept_begun; tip = b.tip; begun = o }) begun))))
+
+module _ (e after : Core) (s : State) (writes : List Write) (k : IsEngine e s writes) (leads : IsSome s.world.leading) where
+  none_open : open_at s.world.log (tip_of s) ≡ None
+  none_open = k.is_state.decided leads
+
+  -- nothing is open behind the records
+  none_begun : (records : List Record) → Writes e after records → after.images.begun ≡ None
+  none_begun records w = (w.settled (settled_leader e s writes k leads)).tip
+
+  none_longer : Writes e after [] → IsLonger after s []
   none_longer w = record {
     tip_is = ap (λ (a : Core). a.tip) w.same ∙ (+ℤ_idr e.tip ∙ k.tip);
     start = k.is_state.started;
     committed_is = refl;
+    closed_is = refl;
     leading_is = refl;
     greatest_is = refl;
     count_of = refl;
     present = k.present ∙ ap (λ i. ok i) (sym (ok_is e.images.tip after.images.tip w.meaning));
+    decided = none_open;
+    begun = none_begun [] w ∙ ap place_of (sym none_open);
     kept = w.kept ∙ k.kept;
+    kept_begun = w.begins ∙ k.kept_begun;
     weighed = record {
       unmade = (let few = w.counted.0 in let none = k.weighed.unmade in omega (arith, few, none));
       rest = k.weighed.rest;
       counted = w.counted.1 ∙ k.weighed.counted;
       each = k.weighed.each;
     };
+    settled = k.is_state.settled;
     ends = k.is_state.ends;
+    begins = k.is_state.begun;
     higher = omega arith;
   }
     where
@@ -148,8 +192,11 @@ module _ (e after : Core) (s : State) (writes : List Write) (k : IsEngine e s wr
     abbrev longer : Log
     longer = log_with s.world.log own
 
+    abbrev n : ℕ
+    n = tip_of s + length own
+
     abbrev world_by : Bool → World
-    world_by b = cond b s.world (record s.world { log = longer; batch_ends = s.world.batch_ends ++ (tip s.world.log + length own) ∷ [] })
+    world_by b = cond b s.world (world_with s.world own (n ∷ []))
 
     count_is : length own ≡ length (r ∷ records)
     count_is = length-map (r ∷ records) (λ (r : Record). items.Record r)
@@ -157,69 +204,77 @@ module _ (e after : Core) (s : State) (writes : List Write) (k : IsEngine e s wr
     means : apply_all e.images.tip own ≡ Ok after.images.tip
     means = as_records e.images.tip (r ∷ records) ∙ w.meaning
 
-    new_tip : tip_of s + length own ≡ tip longer
+    new_tip : n ≡ tip longer
     new_tip = sym (tip_written s.world.log own)
 
-    place_is : place_behind e (r ∷ records) ≡ pos (tip_of s + length own)
-    place_is = ap (λ t. t +ℤ pos (length (r ∷ records))) k.tip ∙ ap (λ n. pos (tip_of s + n)) (sym count_is)
-
-    abbrev IsLongerBy : World → Type 0
-    IsLongerBy v = (after.tip ≡ pos (tip v.log)) × (v.log.offset ≤ s.world.committed) × (v.committed ≡ s.world.committed) × (v.leading ≡ s.world.leading) × (v.greatest ≡ s.world.greatest)
-        × (v.count ≡ s.world.count) × (image_at v.log (tip v.log) ≡ Ok after.images.tip) × (after.images.kept ≡ map (kept_image v.log) (v.committed ∷ v.batch_ends)) × Rise v.committed v.batch_ends (tip v.log)
-        × (tip v.log ≡ tip_of s + length (r ∷ records)) × IsWeighed after.images v.log v.committed v.batch_ends
-
-    kept_so : after.images.kept ≡ e.images.kept ++ (place_behind e (r ∷ records), after.images.tip) ∷ []
-    kept_so = w.kept ∙ ap (λ b. cond b e.images.kept (e.images.kept ++ (place_behind e (r ∷ records), after.images.tip) ∷ [])) (not_none (length records))
+    place_is : place_behind e (r ∷ records) ≡ pos (tip longer)
+    place_is = ap (λ t. t +ℤ pos (length (r ∷ records))) k.tip ∙ (ap (λ m. pos (tip_of s + m)) (sym count_is) ∙ ap pos new_tip)
 
     abbrev counts : ℕ
     counts = w.counted.1.0
 
-    counts_few : counts ≤ item_weights e.images.tip own
-    counts_few =
-        let few : counts ≤ e.images.made + weights e.images.tip (r ∷ records) = w.counted.1.1 in
-        let none = k.weighed.unmade in
-        let same = weights_of_records (r ∷ records) e.images.tip in omega (arith, few, none, same)
+    -- the images behind the records, before they are kept
+    abbrev unkept : Images
+    unkept = record after.images { kept = e.images.kept; made = counts; kept_made = e.images.kept_made; kept_begun = e.images.kept_begun }
 
-    weighed_so : IsWeighed after.images longer s.world.committed (s.world.batch_ends ++ (tip_of s + length own) ∷ [])
-    weighed_so =
-        weighed_behind e.images after.images s.world.log own e.images.tip s.world.committed s.world.batch_ends (tip_of s + length own) counts k.weighed k.present k.is_state.ends new_tip counts_few
-        w.counted.0 (w.counted.1.2 ∙ ap (λ z. e.images.kept_made ++ (z, counts) ∷ []) place_is)
+    low : s.world.committed ≤ tip_of s
+    low = not_higher s.world.committed s.world.batch_ends (tip_of s) k.is_state.ends
 
-    longer_so : IsLongerBy (world_by false)
-    longer_so = (
-      ap (λ (a : Core). a.tip) w.same ∙ (place_is ∙ ap pos new_tip),
-      k.is_state.started,
-      refl,
-      refl,
-      refl,
-      refl,
-      present_then s.world.log own e.images.tip after.images.tip k.present means,
-      kept_so ∙ (ap (λ (kept : List (ℤ × Image)). kept ++ (place_behind e (r ∷ records), after.images.tip) ∷ []) k.kept
-          ∙ (ap (λ z. map (kept_image s.world.log) (s.world.committed ∷ s.world.batch_ends) ++ (z, after.images.tip) ∷ []) place_is
-          ∙ kept_then s.world.log own e.images.tip after.images.tip k.present means s.world.committed s.world.batch_ends (tip_of s + length own) k.is_state.ends new_tip)),
-      subst (Rise s.world.committed (s.world.batch_ends ++ (tip_of s + length own) ∷ [])) new_tip
-          (rise_more s.world.committed s.world.batch_ends (tip_of s) (tip_of s + length own) k.is_state.ends (let n = count_is in omega (arith, n))),
-      sym new_tip ∙ ap (λ n. tip_of s + n) count_is,
-      weighed_so,
-    )
+    unkept_keeps : Keeps unkept longer (closed_of s.world) (weight_settled s.world.log s.world.committed) (s.world.covered ++ s.world.batch_ends) (tip_of s)
+    unkept_keeps =
+        records_kept e.images unkept s.world.log (closed_of s.world) (weight_settled s.world.log s.world.committed) (s.world.covered ++ s.world.batch_ends) (tip_of s) (r ∷ records)
+        (engine_keeps e s writes k) none_open w.meaning refl refl refl (none_begun (r ∷ records) w) w.counted.1.1
 
-    some_longer : IsLonger e after s (r ∷ records)
-    some_longer =
-        let l = subst (λ b. IsLongerBy (world_by b)) (sym (ap (λ n. n == 0) count_is ∙ not_none (length records))) longer_so in record {
-          tip_is = l.0;
-          start = l.1;
-          committed_is = l.2;
-          leading_is = l.3;
-          greatest_is = l.4;
-          count_of = l.5;
-          present = l.6;
-          kept = l.7;
-          ends = l.8;
-          higher = l.9;
-          weighed = l.10;
-        }
+    not_empty : (length (r ∷ records) == 0) ≡ false
+    not_empty = not_none (length records)
 
-  pub longer_by : (records : List Record) → Writes e after records → IsLonger e after s records
+    is_marked : after.images ≡ marked unkept (pos (tip longer))
+    is_marked =
+        same_images after.images (marked unkept (pos (tip longer)))
+        (w.kept ∙ (ap (λ b. cond b e.images.kept (e.images.kept ++ (place_behind e (r ∷ records), after.images.tip) ∷ [])) not_empty ∙ ap (λ z. e.images.kept ++ (z, after.images.tip) ∷ []) place_is))
+        w.counted.0
+        (w.counted.1.2 ∙ ap (λ z. e.images.kept_made ++ (z, counts) ∷ []) place_is)
+        (w.begins ∙ (ap (λ b. cond b e.images.kept_begun (e.images.kept_begun ++ (place_behind e (r ∷ records), after.images.begun) ∷ [])) not_empty ∙ ap (λ z. e.images.kept_begun ++ (z, after.images.begun) ∷ []) place_is))
+        refl refl
+
+    some : tip_of s < tip longer
+    some = let count = count_is in let end = new_tip in omega (arith, count, end)
+
+    keeps : Keeps after.images longer (closed_of s.world) (weight_settled s.world.log s.world.committed) ((s.world.covered ++ s.world.batch_ends) ++ n ∷ []) (tip longer)
+    keeps =
+        subst (λ m. Keeps after.images longer (closed_of s.world) (weight_settled s.world.log s.world.committed) ((s.world.covered ++ s.world.batch_ends) ++ m ∷ []) (tip longer)) (sym new_tip)
+        (tip_kept unkept after.images longer (closed_of s.world) (weight_settled s.world.log s.world.committed) (s.world.covered ++ s.world.batch_ends) (tip_of s) unkept_keeps some is_marked)
+
+    decided_then : open_at longer (tip longer) ≡ None
+    decided_then = open_still s.world.log own (tip_state e.images) after.images.tip (keeps_state e.images s.world.log (closed_of s.world) (weight_settled s.world.log s.world.committed) (s.world.covered ++ s.world.batch_ends) (tip_of s) (engine_keeps e s writes k)) means ∙ none_open
+
+    longer_so : HasWritten after s (world_by false) (length (r ∷ records))
+    longer_so = record {
+      tip_is = ap (λ (a : Core). a.tip) w.same ∙ place_is;
+      start = k.is_state.started;
+      committed_is = refl;
+      closed_is = closed_same s.world own (n ∷ []) after.images e.images.tip (tip longer) k.present low keeps;
+      leading_is = refl;
+      greatest_is = refl;
+      count_of = refl;
+      present = keeps.present;
+      decided = decided_then;
+      begun = keeps.begun;
+      kept = kept_so s.world own (n ∷ []) after.images e.images.tip (tip longer) k.present low keeps;
+      kept_begun = begins_so s.world own (n ∷ []) after.images e.images.tip (tip longer) k.present low keeps;
+      weighed = weighed_so s.world own (n ∷ []) after.images e.images.tip (tip longer) k.present low keeps w.counted.0;
+      settled = settled_so s.world own (n ∷ []) after.images e.images.tip (tip longer) k.present low keeps k.is_state.settled;
+      ends = subst (Rise s.world.committed (s.world.batch_ends ++ n ∷ [])) new_tip
+          (rise_more s.world.committed s.world.batch_ends (tip_of s) n k.is_state.ends (let count = count_is in omega (arith, count)));
+      begins = begun_more (BegunBelow longer s.world.committed) s.world.batch_ends n (still_begun s.world.log own s.world.committed s.world.batch_ends s.world.committed k.is_state.ends k.is_state.begun)
+          (none_below longer s.world.committed n (ap (open_at longer) new_tip ∙ decided_then));
+      higher = sym new_tip ∙ ap (λ m. tip_of s + m) count_is;
+    }
+
+    some_longer : IsLonger after s (r ∷ records)
+    some_longer = subst (λ b. HasWritten after s (world_by b) (length (r ∷ records))) (sym (ap (λ m. m == 0) count_is ∙ not_none (length records))) longer_so
+
+  pub longer_by : (records : List Record) → Writes e after records → IsLonger after s records
   longer_by [] w = none_longer w
   longer_by (r ∷ records) w = some_longer r records w
 
@@ -232,23 +287,24 @@ module _ (e after : Core) (s : State) (writes then : List Write) (k : IsEngine e
   abbrev state_behind : State
   state_behind = record { world = with_records s.world records; basis = basis }
 
-  pub same_seen : image_of_tip state_behind ≡ after.images.tip
-  same_seen = ap (λ r. Rattle.std.specs.Result.result_unwrap_or r Rattle.kr_defs.specs.Image.empty) (longer_by e after s writes k records w).present
+  pub same_seen : IsSome s.world.leading → image_of_tip state_behind ≡ after.images.tip
+  same_seen leads = ap (λ r. Rattle.std.specs.Result.result_unwrap_or r Rattle.kr_defs.specs.Image.empty) (longer_by e after s writes k leads records w).present
 
   pub engine_behind : basis.time ≡ s.basis.time → basis.led ≡ s.basis.led → after.heard ≡ hearing.heard basis
       → tip_of s + length records ≤ unsigned_abs PLACES_END
       → IsSome s.world.leading
       → HearsOf (hearing.heard basis) after.images.tip
       → list_all (λ c. int_le c.time s.basis.time) basis.contacts ≡ true
-      → filter (is_open after.leading after.committed) after.held ≡ then
+      → filter (is_open after.leading after.closed) after.held ≡ then
       → writes_in_order after.held ≡ true
       → All (λ write. int_le write.need (pos (tip_of s + length records)) ≡ true) then
       → IsEngine after state_behind then
   engine_behind same_time same_led heard low leads hears in_time waits ordered reached =
-      let l = longer_by e after s writes k records w in
+      let l = longer_by e after s writes k leads records w in
       let same = w.same in record {
         tip = l.tip_is;
         committed = ap (λ (a : Core). a.committed) same ∙ (k.committed ∙ ap pos (sym l.committed_is));
+        closed = ap (λ (a : Core). a.closed) same ∙ (k.closed ∙ ap pos (sym l.closed_is));
         leading = ap (λ (a : Core). a.leading) same ∙ (k.leading ∙ sym l.leading_is);
         greatest = ap (λ (a : Core). a.greatest) same ∙ (k.greatest ∙ sym l.greatest_is);
         count = ap (λ (a : Core). a.count) same ∙ (k.count ∙ sym l.count_of);
@@ -257,16 +313,21 @@ module _ (e after : Core) (s : State) (writes then : List Write) (k : IsEngine e
         heard_of = heard;
         present = l.present;
         kept = l.kept;
+        begun = l.begun;
+        kept_begun = l.kept_begun;
         weighed = l.weighed;
         waits = waits;
         ordered = ordered;
         is_state = record {
           valid = subst (λ (log : Log). IsValid log.image) (sym (batch_written s.world (as_items records))) k.is_state.valid;
           started = subst (λ c. (with_records s.world records).log.offset ≤ c) (sym l.committed_is) l.start;
+          settled = l.settled;
           ends = l.ends;
+          begun = l.begins;
           low = subst (λ n. n ≤ unsigned_abs PLACES_END) (sym l.higher) low;
           at_standby = λ none. absurd (still_leads (with_records s.world records).leading s.world.leading l.leading_is leads none);
-          hears = λ some. subst (HearsOf (hearing.heard basis)) (sym same_seen) hears;
+          decided = λ some. l.decided;
+          hears = λ some. subst (HearsOf (hearing.heard basis)) (sym (same_seen leads)) hears;
           in_time = subst (λ t. list_all (λ c. int_le c.time t) basis.contacts ≡ true) (sym same_time) in_time;
           natural = subst (λ t. int_le (pos 0) t ≡ true) (sym same_time) k.is_state.natural;
           reached = subst (λ n. All (λ write. int_le write.need (pos n) ≡ true) then) (sym l.higher) reached;

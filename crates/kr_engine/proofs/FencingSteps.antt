@@ -35,7 +35,7 @@ use Rattle.kr_model.proofs.WriteOrders.{reached_later}
 pub record Stays (e after : Core) : Type 0 where
   pub options : after.options ≡ e.options
   pub leading : after.leading ≡ e.leading
-  pub committed : after.committed ≡ e.committed
+  pub closed : after.closed ≡ e.closed
   pub held : after.held ≡ e.held
   pub refusal : after.refusal ≡ e.refusal
 
@@ -44,7 +44,7 @@ fence_stays e after broker f =
     let same = f.writes.same in record {
       options = ap (λ (a : Core). a.options) same;
       leading = ap (λ (a : Core). a.leading) same;
-      committed = ap (λ (a : Core). a.committed) same;
+      closed = ap (λ (a : Core). a.closed) same;
       held = f.held;
       refusal = ap (λ (a : Core). a.refusal) same;
     }
@@ -82,8 +82,8 @@ module _ (e after : Core) (broker : ℤ) (f : Fences e after broker) (s : State)
       (hears_by e.options.minimum (hearing.heard s.basis) e.images.tip after.images.tip broker (entries.get int_cmp e.images.tip.brokers broker) valid refl
       (subst (HearsOf (hearing.heard s.basis)) (same_image e s writes k) (k.is_state.hears leads)) f.writes.meaning)
       (left_in_time (λ c. int_le c.time s.basis.time) (λ c. not (int_eq c.broker broker)) s.basis.contacts k.is_state.in_time)
-      (ap (λ hs. filter (is_open after.leading after.committed) hs) stays.held
-      ∙ (ap (λ l. filter (is_open l after.committed) e.held) stays.leading ∙ (ap (λ c. filter (is_open e.leading c) e.held) stays.committed ∙ k.waits)))
+      (ap (λ hs. filter (is_open after.leading after.closed) hs) stays.held
+      ∙ (ap (λ l. filter (is_open l after.closed) e.held) stays.leading ∙ (ap (λ c. filter (is_open e.leading c) e.held) stays.closed ∙ k.waits)))
       (ap writes_in_order stays.held ∙ k.ordered)
       (reached_later (tip_of s) (tip_of s + length records) writes (omega arith) k.is_state.reached))
 
@@ -111,13 +111,13 @@ stays_then : (a b c : Core) → Stays a b → Stays b c → Stays a c
 stays_then a b c first then = record {
   options = then.options ∙ first.options;
   leading = then.leading ∙ first.leading;
-  committed = then.committed ∙ first.committed;
+  closed = then.closed ∙ first.closed;
   held = then.held ∙ first.held;
   refusal = then.refusal ∙ first.refusal;
 }
 
 pub stays_itself : (e : Core) → Stays e e
-stays_itself e = record { options = refl; leading = refl; committed = refl; held = refl; refusal = refl }
+stays_itself e = record { options = refl; leading = refl; closed = refl; held = refl; refusal = refl }
 
 pub all_fenced : (ids : List ℤ) (e after : Core) → FencesAll e after ids → (s : State) (writes : List Write) → IsEngine e s writes → IsValid e.images.tip → IsSome s.world.leading
     → tip_of s + 10000 * length ids ≤ unsigned_abs PLACES_END → AllFenced e after s writes ids

@@ -28,8 +28,9 @@ use Rattle.law_batch_limits.specs.Fitting.{FitsBatch}
 use Rattle.law_batch_limits.proofs.FittingRecords.{records_fit}
 use Rattle.law_safety.proofs.FencingSizes.{fencings_fit}
 use Rattle.law_safety.specs.HearingLaws.{HearsOf}
-use Rattle.kr_store.specs.Images.{AreValid, IsAbove, marked}
+use Rattle.kr_store.specs.Images.{AreValid, IsAbove, IsSettled, marked}
 use Rattle.kr_model.specs.declared.writes.Write.{Write}
+use Rattle.kr_engine.proofs.FirstReasons.{none_row}
 use Rattle.kr_engine.specs.inner.Changes.{BreaksOff, counted_core, timed_core}
 use Rattle.kr_model.specs.Engine.{Core, IsEngine, IsSound, IsStep, outputs_left}
 use Rattle.kr_model.specs.Entries.{item_entries}
@@ -41,7 +42,6 @@ use Rattle.kr_model.specs.Tick as worlds
 use Rattle.kr_model.specs.Tick.{fencing_of}
 use Rattle.kr_model.specs.World.{State, is_far, tip_of}
 use Rattle.kr_engine.specs.inner.Append.{Fences, Writes, core_after_append, batch_at, place_behind}
-use Rattle.kr_engine.proofs.LeadSteps.{none_row}
 use Rattle.kr_engine.proofs.FencingSteps.{fence_stands, fence_stays}
 use Rattle.kr_engine.proofs.ReadyEngines as engines_ready
 use Rattle.kr_model.proofs.StandingEngines.{same_image}
@@ -50,7 +50,7 @@ use Rattle.kr_model.proofs.LogEntries.{not_none}
 use Rattle.kr_model.proofs.Places.{near_enough}
 use Rattle.kr_model.proofs.Queues.{never}
 use Rattle.kr_engine.proofs.AppendSteps.{writes_by}
-use Rattle.kr_engine.proofs.Undoing.{adding_breaks, images_break, same_breaks, written_then}
+use Rattle.kr_engine.proofs.Undoing.{giving_breaks, images_break, same_breaks, written_then}
 
 -- ---- one
 
@@ -88,14 +88,15 @@ append_leaves e records =
     ]
 
 pub fences_by : (e between behind : Core) (broker : ℤ) (records : List Record) → AreValid e.images → records ≡ fencing_of e.options e.images.tip broker → apply_records e.images.tip records ≡ Ok between.images.tip
-    → between.images.kept ≡ e.images.kept → between.images.made ≤ e.images.made + weights e.images.tip records → between.images.kept_made ≡ e.images.kept_made → between ≡ record e { images = between.images } → behind ≡ core_after_append between records → Fences e (record behind { heard = leave e.heard broker }) broker
-fences_by e between behind broker records valid is meaning kept made calls same appends =
+    → between.images.kept ≡ e.images.kept → between.images.made ≤ e.images.made + weights e.images.tip records → between.images.kept_made ≡ e.images.kept_made → between.images.kept_begun ≡ e.images.kept_begun
+    → (IsSettled e.images → IsSettled between.images) → between ≡ record e { images = between.images } → behind ≡ core_after_append between records → Fences e (record behind { heard = leave e.heard broker }) broker
+fences_by e between behind broker records valid is meaning kept made calls begins settled same appends =
     let fits = fencing_fits e between broker records valid is meaning in
     let own = append_leaves between records in
     let after : Core = record behind { heard = leave e.heard broker } in
     record {
       writes = subst (λ rs. Writes e after rs) is
-          (writes_by e between after records (same ∙ ap (λ h. record e { images = between.images; heard = h }) (sym (ap (λ (b : Core). b.heard) same))) kept made calls meaning fits.few
+          (writes_by e between after records (same ∙ ap (λ h. record e { images = between.images; heard = h }) (sym (ap (λ (b : Core). b.heard) same))) kept made calls begins settled meaning fits.few
           (ap (λ (b : Core). record b { held = behind.held; heard = leave e.heard broker }) appends));
       heard = refl;
       held = ap (λ (a : Core). a.held) appends ∙ (own.held ∙ ap (λ (a : Core). a.held) same);
@@ -107,7 +108,7 @@ heard_still e between behind records same appends = ap (λ (a : Core). a.heard) 
 pub fencing_low : (e between : Core) → MayAppend e → between ≡ record e { images = between.images } → between.tip ≤ℤ PLACES_END
 fencing_low e between r same = subst (λ t. t ≤ℤ PLACES_END) (sym (ap (λ (a : Core). a.tip) same)) r.low
 
-pub ruleset fence = (fencing_fits, fencing_above, fencing_low, heard_still, images_break, adding_breaks)
+pub ruleset fence = (fencing_fits, fencing_above, fencing_low, heard_still, images_break, giving_breaks)
 
 -- ---- the records
 
@@ -138,8 +139,8 @@ indexed_by listed minimum image after broker (Some state) valid is meaning index
 
 -- ---- all
 
-open_of : (e : Core) → IsReady e → MayAppend e
-open_of e r = record { natural = le_both r.natural r.rising; low = r.low; last = r.last; above = r.above }
+open_of : (e : Core) → IsReady e → IsSome e.leading → MayAppend e
+open_of e r leads = record { natural = le_both r.natural r.rising; low = r.low; last = r.last; above = r.above; settled = r.settled leads }
   where
     le_both : pos 0 ≤ℤ e.committed → e.committed ≤ℤ e.tip → pos 0 ≤ℤ e.tip
     le_both low high = omega (arith, ints, low, high)
@@ -152,7 +153,7 @@ module _ (e : Core) (brokers : List ℤ) (broker : ℤ) (others : List ℤ) (is 
   one_valid = own_can.valid
 
   pub one_open : MayAppend e
-  one_open = open_of e (engines_ready.ready e own_can.sound own_can.valid)
+  one_open = open_of e (engines_ready.ready e own_can.sound own_can.valid) own_can.leads
 
   pub then_indexed : (listed : KeysOfBrokers) (between : Core) → Fences e between broker → Indexes listed e.images.tip → Indexes listed between.images.tip
   then_indexed listed between f index =
@@ -189,6 +190,8 @@ apart e between broker h f = record {
   writes = record {
     meaning = f.writes.meaning;
     kept = f.writes.kept;
+    begins = f.writes.begins;
+    settled = f.writes.settled;
     counted = f.writes.counted;
     few = f.writes.few;
     same = ap (λ (c : Core). record c { heard = leave h broker }) f.writes.same;
@@ -224,6 +227,8 @@ one_fenced start at next brokers broker others on f same valid =
       breaks = λ after b. on.breaks after (written_then at next after (fencing_of at.options at.images.tip broker) (record {
         meaning = f.writes.meaning;
         kept = f.writes.kept;
+        begins = f.writes.begins;
+        settled = f.writes.settled;
         counted = f.writes.counted;
         few = f.writes.few;
         same = ap (λ (c : Core). record c { heard = next.heard }) f.writes.same;
@@ -249,7 +254,7 @@ module _ (start at : Core) (brokers : List ℤ) (i : ℕ) (on : FencesOn start a
   next_valid = one_valid here (broker ∷ others) broker others refl on_there.can
 
   pub next_open : MayAppend at
-  next_open = let o = one_open here (broker ∷ others) broker others refl on_there.can in record { natural = o.natural; low = o.low; last = o.last; above = o.above }
+  next_open = let o = one_open here (broker ∷ others) broker others refl on_there.can in record { natural = o.natural; low = o.low; last = o.last; above = o.above; settled = o.settled }
 
   module _ (next : Core) (f : Fences at (record next { heard = leave at.heard broker }) broker) where
     pub next_fenced : next.heard ≡ at.heard → AreValid next.images → FencesOn start next brokers others

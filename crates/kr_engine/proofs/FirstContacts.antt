@@ -14,7 +14,7 @@ use Rattle.kr_engine.specs.inner.Lead.{lead_reason}
 use Rattle.kr_model.specs.Reasons.{already_leading, bad_next, old_epoch}
 use Rattle.kr_engine.specs.inner.Ready.{IsReady}
 use Rattle.kr_model.proofs.UnfencedBrokers.{stopping_once, stopping_within, unfenced_once}
-use Rattle.kr_engine.proofs.LeadSteps.{none_row}
+use Rattle.kr_engine.proofs.FirstReasons.{none_row}
 
 pub unfenced_distinct : (images : Images) → AreValid images → IsTrue (is_distinct (brokers.unfenced images.tip))
 unfenced_distinct images valid = unfenced_once images.tip valid.tip
@@ -41,11 +41,14 @@ higher b = grind (arith, ints)
 one_higher : (a b : ℤ) → int_eq a (b +ℤ pos 1) ≡ true → int_lt b a ≡ true
 one_higher a b is = ap (int_lt b) (same_id a (b +ℤ pos 1) is) ∙ higher b
 
-pub begins_above : (e : Core) (epoch next : ℤ) → IsReady e → None ≡ lead_reason e epoch next → int_eq next e.committed ≡ false → IsAbove e.images.kept next
-begins_above e epoch next r none other =
+pub begins_higher : (e : Core) (epoch next : ℤ) → IsReady e → None ≡ lead_reason e epoch next → int_eq next e.committed ≡ false → int_lt e.tip next ≡ true
+begins_higher e epoch next r none other =
     let one = none_row (is_some e.leading) (already_leading e.leading) _ (sym none) in
     let two = none_row (not (int_lt e.greatest epoch)) (old_epoch epoch e.greatest) _ one.1 in
     let three = none_row (not (int_eq next e.committed || int_eq next (e.committed +ℤ pos 1))) (bad_next next e.committed) _ two.1 in
     let begins = not_false (int_eq next e.committed || int_eq next (e.committed +ℤ pos 1)) three.0 in
     let above : int_eq next (e.committed +ℤ pos 1) ≡ true = sym (ap (λ b. b || int_eq next (e.committed +ℤ pos 1)) other) ∙ begins in
-    r.above next (sym (ap (λ c. int_lt c next) (r.at_standby (none_is e.leading one.0))) ∙ one_higher next e.committed above)
+    sym (ap (λ c. int_lt c next) (r.at_standby (none_is e.leading one.0))) ∙ one_higher next e.committed above
+
+pub begins_above : (e : Core) (epoch next : ℤ) → IsReady e → None ≡ lead_reason e epoch next → int_eq next e.committed ≡ false → IsAbove e.images.kept next
+begins_above e epoch next r none other = r.above next (begins_higher e epoch next r none other)

@@ -25,6 +25,10 @@ pub row : {X : Type 0} (b : Bool) (reason : Reason) (o : Option Reason) (r : Res
 row true reason o r x rest = refl
 row false reason o r x rest = rest
 
+pub none_row : {X : Type 0} (b : Bool) (x : X) (o : Option X) → cond b (Some x) o ≡ None → (b ≡ false) × (o ≡ None)
+none_row true x o is = absurd cc
+none_row false x o is = (refl, is)
+
 -- ---- a step
 
 -- the engine before the event is counted, and the state where the event is accepted

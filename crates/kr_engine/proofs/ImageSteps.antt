@@ -1,4 +1,4 @@
--- The committed image is given out.
+-- The image at the closed end is given out.
 use Rattle.std.proofs.Common.{◌≡◌, ◌∙◌, sym, subst, ℤ, pos, List, [], ◌∷◌, ◌++◌, map, refl, ap}
 use Rattle.std.specs.Prelude.{Some, unwrap_or, find, option_to_list}
 use Rattle.std.specs.Ordering.{int_eq}
@@ -13,7 +13,7 @@ use Rattle.kr_model.specs.Engine.{Core, IsEngine, IsStep, kept_image, outputs_le
 use Rattle.kr_engine.specs.inner.Image.{core_after_image}
 use Rattle.kr_model.specs.Entries.{item_entries}
 use Rattle.kr_model.specs.Outputs.{answers, answers_in}
-use Rattle.kr_model.specs.World.{State, image_of_end, tip_of}
+use Rattle.kr_model.specs.World.{State, closed_of, image_of_closed, tip_of}
 use Rattle.kr_model.proofs.EventOutcomes.{outputs_accepted, stands_accepted}
 use Rattle.kr_model.proofs.LogEntries.{none_behind}
 use Rattle.kr_model.proofs.KeptImages.{first_found}
@@ -25,19 +25,19 @@ module _ (e : Core) (d : IsDrained e) where
   after = counted_core (core_after_image (cleared_core e))
 
   module _ (s : State) (writes : List Write) (k : IsEngine e s writes) where
-    pub committed_found : kept_at e.images e.committed ≡ Some (image_of_end s)
-    committed_found =
-        ap (kept_at e.images) k.committed
-        ∙ (ap (λ (kept : List (ℤ × Image)). kept_at (record e.images { kept = kept }) (pos s.world.committed)) k.kept
-        ∙ first_found s.world.log s.world.committed (find (λ (i : ℤ × Image). int_eq i.0 (pos s.world.committed)) (map (kept_image s.world.log) s.world.batch_ends)))
+    pub closed_found : kept_at e.images e.closed ≡ Some (image_of_closed s)
+    closed_found =
+        ap (kept_at e.images) k.closed
+        ∙ (ap (λ (kept : List (ℤ × Image)). kept_at (record e.images { kept = kept }) (pos (closed_of s.world))) k.kept
+        ∙ first_found s.world.log (closed_of s.world) (find (λ (i : ℤ × Image). int_eq i.0 (pos (closed_of s.world))) (map (kept_image s.world.log) (s.world.covered ++ s.world.batch_ends))))
 
-    left_then : outputs_left after ≡ given.Image (image_text (pos s.world.committed) (image_of_end s)) ∷ answers_in s.world (writes ++ [])
+    left_then : outputs_left after ≡ given.Image (image_text (pos (closed_of s.world)) (image_of_closed s)) ∷ answers_in s.world (writes ++ [])
     left_then =
-        ap (λ g. (g ++ given.Image (image_text e.committed (unwrap_or (kept_at e.images e.committed) empty)) ∷ []) ++ option_to_list e.refusal ++ answers e.leading e.committed e.held) d.none_given
-        ∙ (ap (λ o. given.Image (image_text e.committed (unwrap_or o empty)) ∷ option_to_list e.refusal ++ answers e.leading e.committed e.held) committed_found
-        ∙ (ap (λ c. given.Image (image_text c (image_of_end s)) ∷ option_to_list e.refusal ++ answers e.leading e.committed e.held) k.committed
-        ∙ (ap (λ o. given.Image (image_text (pos s.world.committed) (image_of_end s)) ∷ option_to_list o ++ answers e.leading e.committed e.held) d.none_refused
-        ∙ ap (λ due. given.Image (image_text (pos s.world.committed) (image_of_end s)) ∷ due) (answers_then e s writes d k e.leading e.committed s.world k.leading k.committed))))
+        ap (λ g. (g ++ given.Image (image_text e.closed (unwrap_or (kept_at e.images e.closed) empty)) ∷ []) ++ option_to_list e.refusal ++ answers e.leading e.closed e.held) d.none_given
+        ∙ (ap (λ o. given.Image (image_text e.closed (unwrap_or o empty)) ∷ option_to_list e.refusal ++ answers e.leading e.closed e.held) closed_found
+        ∙ (ap (λ c. given.Image (image_text c (image_of_closed s)) ∷ option_to_list e.refusal ++ answers e.leading e.closed e.held) k.closed
+        ∙ (ap (λ o. given.Image (image_text (pos (closed_of s.world)) (image_of_closed s)) ∷ option_to_list o ++ answers e.leading e.closed e.held) d.none_refused
+        ∙ ap (λ due. given.Image (image_text (pos (closed_of s.world)) (image_of_closed s)) ∷ due) (answers_then e s writes d k e.leading e.closed s.world k.leading k.closed))))
 
   step : IsStep e after events.Image
   step = record {

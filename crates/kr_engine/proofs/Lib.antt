@@ -1,5 +1,7 @@
+pub mod LongerWorlds
 pub mod AppendSteps
 pub mod BatchSteps
+pub mod ClosedEnds
 pub mod CommitSteps
 pub mod EventBatches
 pub mod FencingSteps
@@ -7,10 +9,14 @@ pub mod Fencings
 pub mod FirstContacts
 pub mod FirstReasons
 pub mod ImageSteps
+pub mod ItemSteps
+pub mod KeptPlaces
+pub mod KeptStates
 pub mod LeadSteps
 pub mod LoadSteps
 pub mod LostSteps
 pub mod NewEngines
+pub mod OpenTransactions
 pub mod ReadyEngines
 pub mod Refusals
 pub mod RequestDecisions

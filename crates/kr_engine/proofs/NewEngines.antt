@@ -1,18 +1,22 @@
 -- An engine to which nothing has happened.
-use Rattle.std.proofs.Common.{◌≡◌, sym, subst, [], refl, ap}
-use Rattle.std.specs.Prelude.{IfOk, Result, Ok, Err}
+use Rattle.std.proofs.Common.{◌≡◌, ◌∙◌, sym, subst, ℕ, pos, [], ◌∷◌, refl, ap}
+use Rattle.std.specs.Prelude.{IfOk, Option, Result, Ok, Err, unwrap_or}
+use Rattle.std.specs.Option.{option_map}
 use Rattle.kr_defs.specs.declared.options.Options.{Options}
-use Rattle.kr_defs.specs.Log.{image_at}
+use Rattle.kr_defs.specs.Image.{empty}
+use Rattle.kr_defs.specs.Log.{first, image_at, open_at, state_at}
 use Rattle.kr_model.specs.Engine.{Core, IsEngine, outputs_left}
 use Rattle.kr_engine.specs.inner.Changes.{new_core}
-use Rattle.kr_model.specs.World.{start}
+use Rattle.kr_model.specs.World.{seen_at, start}
+use Rattle.kr_model.proofs.Logs.{none_open_at_start}
 use Rattle.kr_model.proofs.StandingEngines.{start_state}
 
 at_first : (options : Options) → IsEngine (new_core options) start []
-unfolding image_at
+unfolding image_at state_at
 at_first options = record {
   tip = refl;
   committed = refl;
+  closed = ap (λ o. pos (unwrap_or o 0)) (sym (none_open_at_start 0 empty 0));
   leading = refl;
   greatest = refl;
   count = refl;
@@ -20,8 +24,12 @@ at_first options = record {
   led = refl;
   heard_of = refl;
   present = refl;
-  kept = refl;
-  weighed = record { unmade = refl; rest = []; counted = refl; each = tt };
+  kept = ap (λ (o : Option ℕ). (pos (unwrap_or o 0), seen_at first (unwrap_or o 0)) ∷ []) (sym (none_open_at_start 0 empty 0));
+  begun = ap (option_map (λ (n : ℕ). pos n)) (sym (none_open_at_start 0 empty 0));
+  kept_begun =
+      ap (λ (o : Option ℕ). (pos 0, option_map (λ (n : ℕ). pos n) o) ∷ []) (sym (none_open_at_start 0 empty 0))
+      ∙ ap (λ (o : Option ℕ). (pos (unwrap_or o 0), option_map (λ (n : ℕ). pos n) (open_at first (unwrap_or o 0))) ∷ []) (sym (none_open_at_start 0 empty 0));
+  weighed = record { unmade = refl; rest = []; counted = ap (λ (o : Option ℕ). (pos (unwrap_or o 0), 0) ∷ []) (sym (none_open_at_start 0 empty 0)); each = tt };
   waits = refl;
   ordered = refl;
   is_state = start_state;

@@ -25,7 +25,7 @@ module _ (e : Core) (event : Event) (reason : Reason) (d : IsDrained e) (is : (s
   -- nothing else is left to hand out
   one_left : outputs_left (after e event reason) ≡ refusal e.count ∷ []
   one_left =
-      ap (λ g. (g ++ (refusal e.count ∷ [])) ++ answers e.leading e.committed e.held) d.none_given
+      ap (λ g. (g ++ (refusal e.count ∷ [])) ++ answers e.leading e.closed e.held) d.none_given
       ∙ ap (λ due. refusal e.count ∷ due) d.none_due
 
   pub refused_step : IsStep e (after e event reason) event

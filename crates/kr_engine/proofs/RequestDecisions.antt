@@ -25,7 +25,7 @@ use Rattle.kr_defs.specs.ImageLaws.{as_items}
 use Rattle.kr_defs.specs.Image.{Image, empty}
 use Rattle.law_batch_limits.specs.Fitting.{FitsBatch}
 use Rattle.law_batch_limits.proofs.FittingRecords.{requests_fit}
-use Rattle.kr_store.specs.Images.{AreValid, IsAbove, kept_at, marked}
+use Rattle.kr_store.specs.Images.{AreValid, IsAbove, IsSettled, kept_at, marked}
 use Rattle.kr_store.proofs.LastKept.{last_found}
 use Rattle.kr_model.specs.Entries.{item_entries}
 use Rattle.kr_model.specs.declared.writes.Decided.{Decided}
@@ -75,9 +75,9 @@ held_apart a b held heard is = subst (λ (c : Core). c ≡ record b { held = c.h
 -- what the rule of a request gives, said clause by clause
 pub decides_by : (before after : Core) (request : Request) (out : Effect) → out.records ≡ (decided_by before request).records → out.reply ≡ (decided_by before request).reply
     → after.images.tip ≡ (decided_by before request).image → after.images.kept ≡ before.images.kept
-    → after.images.made ≤ before.images.made + weights before.images.tip out.records → after.images.kept_made ≡ before.images.kept_made
-    → after ≡ record before { images = after.images } → Decides before after request out
-decides_by before after request out records reply image kept made calls same = record {
+    → after.images.made ≤ before.images.made + weights before.images.tip out.records → after.images.kept_made ≡ before.images.kept_made → after.images.kept_begun ≡ before.images.kept_begun
+    → (IsSettled before.images → IsSettled after.images) → after ≡ record before { images = after.images } → Decides before after request out
+decides_by before after request out records reply image kept made calls begins settled same = record {
   records = records;
   reply = reply;
   same = same;
@@ -85,6 +85,8 @@ decides_by before after request out records reply image kept made calls same = r
   kept = kept;
   made = made;
   calls = calls;
+  begins = begins;
+  settled = settled;
 }
 
 tip_natural : (committed tip : ℤ) → pos 0 ≤ℤ committed → committed ≤ℤ tip → pos 0 ≤ℤ tip
@@ -98,9 +100,9 @@ ready_natural e r = tip_natural e.committed e.tip r.natural r.rising
 pub decides_ok : {E : Type 0} (before after : Core) (request : Request) (r : Result Effect E) → IfOk r (λ (out : Effect). out.records ≡ (decided_by before request).records) → IfOk r (λ (out : Effect). out.reply ≡ (decided_by before request).reply)
     → OnOk r (after.images.tip ≡ (decided_by before request).image) → after.images.kept ≡ before.images.kept
     → IfOk r (λ (out : Effect). after.images.made ≤ before.images.made + weights before.images.tip out.records) → after.images.kept_made ≡ before.images.kept_made
-    → after ≡ record before { images = after.images } → IfOk r (λ (out : Effect). Decides before after request out)
-decides_ok before after request (Ok out) records reply image kept made calls same = decides_by before after request out records reply image kept made calls same
-decides_ok before after request (Err fault) records reply image kept made calls same = tt
+    → after.images.kept_begun ≡ before.images.kept_begun → (IsSettled before.images → IsSettled after.images) → after ≡ record before { images = after.images } → IfOk r (λ (out : Effect). Decides before after request out)
+decides_ok before after request (Ok out) records reply image kept made calls begins settled same = decides_by before after request out records reply image kept made calls begins settled same
+decides_ok before after request (Err fault) records reply image kept made calls begins settled same = tt
 
 pub ruleset decides = (ready_natural)
 
@@ -218,6 +220,8 @@ module _ (before between with_appended' after : Core) (client : ℕ) (call : Cal
             d.kept
             (subst (λ rs. between.images.made ≤ before.images.made + weights before.images.tip rs) d.records d.made)
             d.calls
+            d.begins
+            d.settled
             (subst (λ i. apply_records before.images.tip records ≡ Ok i) (sym d.image) (requests_stand before.options before.time before.heard before.images.tip before.tip call.request))
             fits.few
             (held_apart after with_appended' _ _ held ∙ ap (λ (a : Core). record a { held = after.held; heard = after.heard }) (is ∙ ap (core_after_append between) d.records));
@@ -235,7 +239,7 @@ module _ (before between with_appended' after : Core) (client : ℕ) (call : Cal
 -- ---- where memory is wanted
 
 pub decided_breaks : (before between : Core) (request : Request) (out : Effect) → Decides before between request out → BreaksOff before between
-decided_breaks before between request out d = images_break before between d.same d.kept d.calls
+decided_breaks before between request out d = images_break before between d.same d.kept d.calls d.begins
 
 pub append_breaks : (before between after : Core) (request : Request) (out : Effect) → Decides before between request out → GivesAlone between after → BreaksOff before after
 append_breaks before between after request out d is = begun_then before between after (decided_breaks before between request out d) is

@@ -44,18 +44,17 @@ use Rattle.kr_model.specs.Outputs.{answers, answers_in, answers_now, append, app
 use Rattle.kr_model.specs.Reasons.{exhausted}
 use Rattle.kr_model.specs.Request.{after_ask, after_write, decision, is_decided}
 use Rattle.kr_model.specs.World as worlds
-use Rattle.kr_model.specs.World.{State, image_of_end, is_far, tip_of, with_records}
+use Rattle.kr_model.specs.World.{State, closed_of, image_of_closed, is_far, tip_of, with_records}
 use Rattle.kr_engine.specs.inner.Append.{append_output}
 use Rattle.kr_engine.specs.inner.Request.{is_led_write, SettlesRequest, TakesCall, TakesWrite, request_reason, decided_at, decided_by, core_with_output, reply_at_once, waiting_write, write_with}
 use Rattle.kr_model.proofs.LogEntries.{Gains, batch_written, gained, gains_none}
 use Rattle.kr_engine.proofs.AppendSteps.{IsLonger, engine_behind, longer_by}
 use Rattle.kr_model.proofs.ContactTimes.{AreInTime, decided_in_time}
 use Rattle.kr_model.proofs.EventsWithoutWrites.{answers_then, held_then, passes}
-use Rattle.kr_engine.proofs.FirstReasons.{IsAccepted, accepted_step, row, unless_refused}
+use Rattle.kr_engine.proofs.FirstReasons.{IsAccepted, accepted_step, none_row, row, unless_refused}
 use Rattle.kr_model.proofs.StandingEngines.{is_core, same_image}
 use Rattle.kr_model.proofs.WriteOrders.{reached_later, all_behind, all_open, all_reached, order_more}
-use Rattle.kr_engine.proofs.ImageSteps.{committed_found}
-use Rattle.kr_engine.proofs.LeadSteps.{none_row}
+use Rattle.kr_engine.proofs.ImageSteps.{closed_found}
 use Rattle.kr_model.proofs.Queues.{IsDrained, drained}
 use Rattle.kr_engine.proofs.Refusals.{refused_step}
 use Rattle.kr_engine.proofs.TickSteps.{counted_engine, timed_engine}
@@ -70,7 +69,7 @@ room_for_one : (n m : ℕ) → is_far (pos n) ≡ false → m ≤ 10000 → n + 
 room_for_one n m near few = let room = near_enough n 1 near (omega arith) in omega (arith, few, room)
 
 -- the engine at the time of the request, and behind the write
-module _ (e after : Core) (client : ℕ) (call : Call) (w : TakesWrite e after client call) (s : State) (writes : List Write) (k : IsEngine e s writes) (all_wait : filter (is_open e.leading e.committed) e.held ≡ e.held) (takes : is_decided s.world (asks.Call call) ≡ true) where
+module _ (e after : Core) (client : ℕ) (call : Call) (w : TakesWrite e after client call) (s : State) (writes : List Write) (k : IsEngine e s writes) (all_wait : filter (is_open e.leading e.closed) e.held ≡ e.held) (takes : is_decided s.world (asks.Call call) ≡ true) where
   abbrev request : Request
   request = call.request
 
@@ -88,11 +87,11 @@ module _ (e after : Core) (client : ℕ) (call : Call) (w : TakesWrite e after c
       ap (λ (c : Core). decided_by c request) (is_core e s writes k)
       ∙ ap (λ i. decide e.options i s.basis (pos (tip_of s)) request) (sym (same_image e s writes k))
 
-  longer : IsLonger e after s made.records
-  longer = longer_by e after s writes k made.records w.writes
-
   leads : IsSome s.world.leading
   leads = (both (is_some s.world.leading) (not (is_read request)) takes).0
+
+  longer : IsLonger after s made.records
+  longer = longer_by e after s writes k leads made.records w.writes
 
   image_is : after.images.tip ≡ made.image
   image_is = same_ok (apply_records e.images.tip made.records) after.images.tip made.image w.writes.meaning (requests_stand e.options e.time e.heard e.images.tip e.tip request)
@@ -122,16 +121,16 @@ module _ (e after : Core) (client : ℕ) (call : Call) (w : TakesWrite e after c
   leading_is : after.leading ≡ (state_by made).world.leading
   leading_is = ap (λ (a : Core). a.leading) w.writes.same ∙ (k.leading ∙ sym longer.leading_is)
 
-  committed_is : after.committed ≡ pos (state_by made).world.committed
-  committed_is = ap (λ (a : Core). a.committed) w.writes.same ∙ (k.committed ∙ ap pos (sym longer.committed_is))
+  closed_is : after.closed ≡ pos (closed_of (state_by made).world)
+  closed_is = ap (λ (a : Core). a.closed) w.writes.same ∙ (k.closed ∙ ap pos (sym longer.closed_is))
 
   abbrev then : Decision → List Write
   then d = filter (is_open_in (state_by d).world) (writes ++ last ∷ [])
 
-  waits : filter (is_open after.leading after.committed) after.held ≡ then made
+  waits : filter (is_open after.leading after.closed) after.held ≡ then made
   waits =
-      ap (λ l. filter (is_open l after.committed) after.held) leading_is
-      ∙ (ap (λ c. filter (is_open (state_by made).world.leading c) after.held) committed_is
+      ap (λ l. filter (is_open l after.closed) after.held) leading_is
+      ∙ (ap (λ c. filter (is_open (state_by made).world.leading c) after.held) closed_is
       ∙ ap (filter (is_open_in (state_by made).world)) held_is)
 
   abbrev needs : ℕ → Write → Type 0
@@ -144,8 +143,8 @@ module _ (e after : Core) (client : ℕ) (call : Call) (w : TakesWrite e after c
   ordered =
       ap writes_in_order w.held
       ∙ order_more e.held (waiting_write e client call after.tip) k.ordered
-      (all_behind e.leading e.committed (tip_of s) (tip_of s + length made.records) (waiting_write e client call after.tip) (omega arith) refl (ap (λ (x : Write). x.need) write_is ∙ last_needs) e.held
-      (subst (λ hs. list_all (is_open e.leading e.committed) hs ≡ true) all_wait (all_open (is_open e.leading e.committed) e.held))
+      (all_behind e.leading e.closed (tip_of s) (tip_of s + length made.records) (waiting_write e client call after.tip) (omega arith) refl (ap (λ (x : Write). x.need) write_is ∙ last_needs) e.held
+      (subst (λ hs. list_all (is_open e.leading e.closed) hs ≡ true) all_wait (all_open (is_open e.leading e.closed) e.held))
       (subst (λ (hs : List Write). AllByRecursion (needs (tip_of s)) hs) (sym k.waits ∙ all_wait) (recursion_from_All (needs (tip_of s)) writes k.is_state.reached)))
 
   reached : All (needs (tip_of s + length made.records)) (then made)
@@ -194,19 +193,19 @@ module _ (e after : Core) (client : ℕ) (call : Call) (w : TakesWrite e after c
       ∙ (ap (λ (c : Core). e.given ++ append_output c made.records) (is_core e s writes k)
       ∙ ap (λ (d : Decision). e.given ++ append s d.records) same_decision)
 
-  due_is : answers after.leading after.committed after.held ≡ answers_in (after_write e.options s request).world (writes ++ last ∷ [])
+  due_is : answers after.leading after.closed after.held ≡ answers_in (after_write e.options s request).world (writes ++ last ∷ [])
   due_is =
-      ap (λ l. answers l after.committed after.held) leading_is
-      ∙ (ap (λ c. answers (state_by made).world.leading c after.held) committed_is
+      ap (λ l. answers l after.closed after.held) leading_is
+      ∙ (ap (λ c. answers (state_by made).world.leading c after.held) closed_is
       ∙ (ap (answers_in (state_by made).world) held_is
       ∙ ap (λ d. answers_in (state_by d).world (writes ++ last ∷ [])) same_decision))
 
   pub write_left : e.given ≡ [] → e.refusal ≡ None
       → outputs_left after ≡ append s (decision e.options s call.request).records ++ answers_in (after_write e.options s call.request).world (writes ++ write_of e.options s client call ∷ [])
   write_left none_given none_refused =
-      ap (λ g. (g ++ option_to_list after.refusal) ++ answers after.leading after.committed after.held) (given_is ∙ ap (λ g. g ++ own) none_given)
-      ∙ (ap (λ o. (own ++ option_to_list o) ++ answers after.leading after.committed after.held) (ap (λ (a : Core). a.refusal) w.writes.same ∙ none_refused)
-      ∙ (ap (λ g. g ++ answers after.leading after.committed after.held) (append-nil own)
+      ap (λ g. (g ++ option_to_list after.refusal) ++ answers after.leading after.closed after.held) (given_is ∙ ap (λ g. g ++ own) none_given)
+      ∙ (ap (λ o. (own ++ option_to_list o) ++ answers after.leading after.closed after.held) (ap (λ (a : Core). a.refusal) w.writes.same ∙ none_refused)
+      ∙ (ap (λ g. g ++ answers after.leading after.closed after.held) (append-nil own)
       ∙ ap (λ due. own ++ due) due_is))
     where
       own : List Output
@@ -263,9 +262,9 @@ module _ (e : Core) (client : ℕ) (now : ℤ) (ask : Ask) (d : IsDrained e) whe
   module _ (output : Output) (s : State) (writes : List Write) (k : IsEngine e s writes) (has : HasReply e.options (at_time_of s event) event output) where
     reply_left : outputs_left (core_with_output before output) ≡ outputs_then e.options (at_time_of s event) writes event (at_time_of s event)
     reply_left =
-        ap (λ g. ((g ++ output ∷ []) ++ option_to_list e.refusal) ++ answers e.leading e.committed e.held) d.none_given
-        ∙ (ap (λ o. ((output ∷ []) ++ option_to_list o) ++ answers e.leading e.committed e.held) d.none_refused
-        ∙ (ap (λ due. output ∷ due) (answers_then e s writes d k e.leading e.committed s.world k.leading k.committed)
+        ap (λ g. ((g ++ output ∷ []) ++ option_to_list e.refusal) ++ answers e.leading e.closed e.held) d.none_given
+        ∙ (ap (λ o. ((output ∷ []) ++ option_to_list o) ++ answers e.leading e.closed e.held) d.none_refused
+        ∙ (ap (λ due. output ∷ due) (answers_then e s writes d k e.leading e.closed s.world k.leading k.closed)
         ∙ (sym (ap (λ g. g ++ answers_in s.world (writes ++ [])) has.answer)
         ∙ (sym (ap (λ xs. ((xs ++ []) ++ answers_now e.options (at_time_of s event) event) ++ answers_in s.world (writes ++ [])) has.appends_none)
         ∙ sym (ap (λ (ws : List Write). ((appends e.options (at_time_of s event) event ++ []) ++ answers_now e.options (at_time_of s event) event) ++ answers_in s.world (writes ++ ws)) has.writes_none)))))
@@ -311,8 +310,8 @@ module _ (e : Core) (client : ℕ) (now : ℤ) (call : Call) (d : IsDrained e) w
             ap (λ b. cond (b && is_far (pos (tip_of s))) (Err (exhausted (pos (tip_of s)))) (Ok (cond b (after_write e.options (at_time_of s asked) call.request) (at_time_of s asked)))) is;
         appends_none = ap (λ b. cond b (append (at_time_of s asked) (decision e.options (at_time_of s asked) call.request).records) []) is;
         answer =
-            ap (map (given.Reply client call.correlation)) (one_now e.options (image_of_end s) (is_some s.world.leading) call.request is)
-            ∙ ap (λ i. given.Reply client call.correlation (unwrap_or (query e.options i call.request) (refuse call.request NOT_CONTROLLER)) ∷ []) (sym (ap (λ o. unwrap_or o empty) (committed_found e d s writes k)));
+            ap (map (given.Reply client call.correlation)) (one_now e.options (image_of_closed s) (is_some s.world.leading) call.request is)
+            ∙ ap (λ i. given.Reply client call.correlation (unwrap_or (query e.options i call.request) (refuse call.request NOT_CONTROLLER)) ∷ []) (sym (ap (λ o. unwrap_or o empty) (closed_found e d s writes k)));
         writes_none = ap (λ b. cond b (write_of e.options (at_time_of s asked) client call ∷ []) []) is;
       }
 
@@ -354,7 +353,7 @@ module _ (e : Core) (client : ℕ) (now : ℤ) (call : Call) (d : IsDrained e) w
           due = answers_in behind_write.world (writes ++ writes_of e.options before_write asked)
 
           no_answer : answers_now e.options before_write asked ≡ []
-          no_answer = ap (map (given.Reply client call.correlation)) (none_now (is_some s.world.leading) (is_read call.request) (option_to_list (query e.options (image_of_end s) call.request)) (refuse call.request NOT_CONTROLLER ∷ []) takes_so)
+          no_answer = ap (map (given.Reply client call.correlation)) (none_now (is_some s.world.leading) (is_read call.request) (option_to_list (query e.options (image_of_closed s) call.request)) (refuse call.request NOT_CONTROLLER ∷ []) takes_so)
 
       write_accepted : IsAccepted e e.options s writes asked core behind_write
       write_accepted = record {

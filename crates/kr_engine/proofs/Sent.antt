@@ -30,7 +30,7 @@ write_send : IsSend write_row
 write_send =
     declared_send write_type (search sendable depth 20, (search sendable depth 20, (search sendable depth 20, (search sendable depth 20, (reply.the_send, (reply.the_send, (decided_send, tt)))))))
 
--- the allocator, the options, the store, the sessions, seven numbers, the writes, the outputs, the refusal, and the entries
+-- the allocator, the options, the store, the sessions, eight numbers, the writes, the outputs, the refusal, and the entries
 pub engine_send : IsSend the_row
 engine_send =
     view_send _ _ _ _ _ (declared_send the_type (
@@ -55,7 +55,10 @@ engine_send =
                         search sendable depth 20,
                         (
                           search sendable depth 20,
-                          (heap.Deque-send write_row write_send, (heap.Deque-send output_row output.the_send, (search (sendable, option.the_send, output.the_send) depth 20, (heap.Vec-send entry_row entry.the_send, tt)))),
+                          (
+                            search sendable depth 20,
+                            (heap.Deque-send write_row write_send, (heap.Deque-send output_row output.the_send, (search (sendable, option.the_send, output.the_send) depth 20, (heap.Vec-send entry_row entry.the_send, tt)))),
+                          ),
                         ),
                       ),
                     ),

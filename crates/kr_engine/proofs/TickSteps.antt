@@ -25,15 +25,14 @@ use Rattle.kr_model.specs.Outputs.{answers, answers_in, append_fencings, is_open
 use Rattle.kr_model.specs.Reasons.{exhausted}
 use Rattle.kr_engine.specs.inner.Tick.{FencesAll, SettlesTick, lapsed_contacts, tick_reason}
 use Rattle.kr_model.specs.Tick.{fence_all, lapsed_contacts as lapsed_in, tick}
-use Rattle.kr_model.specs.World.{State, is_far, tip_of}
-use Rattle.kr_engine.proofs.LeadSteps.{none_row}
+use Rattle.kr_model.specs.World.{State, closed_of, is_far, tip_of}
 use Rattle.kr_model.proofs.LogEntries.{gained, gains_none}
 use Rattle.kr_engine.proofs.FencingSteps.{AllFenced, all_fenced, stays_itself}
 use Rattle.kr_model.proofs.Queues.{IsDrained, drained}
 use Rattle.kr_model.proofs.StandingEngines.{same_image, core_of, is_core}
 use Rattle.kr_engine.proofs.Refusals.{refused_step}
 use Rattle.kr_model.proofs.EventsWithoutWrites.{counted_state, held_then, timed_state}
-use Rattle.kr_engine.proofs.FirstReasons.{IsAccepted, accepted_step, row, unless_refused}
+use Rattle.kr_engine.proofs.FirstReasons.{IsAccepted, accepted_step, none_row, row, unless_refused}
 use Rattle.kr_model.proofs.Places.{near_enough}
 
 -- ---- at most 1,000 sessions end
@@ -64,6 +63,7 @@ pub timed_engine : (e : Core) (event : Event) (s : State) (writes : List Write) 
 timed_engine e event s writes k = record {
   tip = k.tip;
   committed = k.committed;
+  closed = k.closed;
   leading = k.leading;
   greatest = k.greatest;
   count = k.count;
@@ -72,6 +72,8 @@ timed_engine e event s writes k = record {
   heard_of = k.heard_of;
   present = k.present;
   kept = k.kept;
+  begun = k.begun;
+  kept_begun = k.kept_begun;
   weighed = k.weighed;
   waits = k.waits;
   ordered = k.ordered;
@@ -82,6 +84,7 @@ pub counted_engine : (e : Core) (s : State) (writes : List Write) → IsEngine e
 counted_engine e s writes k = record {
   tip = k.tip;
   committed = k.committed;
+  closed = k.closed;
   leading = k.leading;
   greatest = k.greatest;
   count = ap next_number k.count;
@@ -90,6 +93,8 @@ counted_engine e s writes k = record {
   heard_of = k.heard_of;
   present = k.present;
   kept = k.kept;
+  begun = k.begun;
+  kept_begun = k.kept_begun;
   weighed = k.weighed;
   waits = k.waits;
   ordered = k.ordered;
@@ -126,22 +131,22 @@ module _ (e : Core) (now : ℤ) (d : IsDrained e) where
     still_wait : filter (is_open_in after.world) (writes ++ []) ≡ writes
     still_wait =
         ap (filter (is_open_in after.world)) (append-nil writes)
-        ∙ (sym (ap (λ l. filter (is_open l (pos after.world.committed)) writes) f.stands.leading)
-        ∙ (sym (ap (λ c. filter (is_open core.leading c) writes) f.stands.committed)
-        ∙ (ap (λ hs. filter (is_open core.leading core.committed) hs) (sym k.waits ∙ (d.all_wait ∙ sym f.stays.held)) ∙ f.stands.waits)))
+        ∙ (sym (ap (λ l. filter (is_open l (pos (closed_of after.world))) writes) f.stands.leading)
+        ∙ (sym (ap (λ c. filter (is_open core.leading c) writes) f.stands.closed)
+        ∙ (ap (λ hs. filter (is_open core.leading core.closed) hs) (sym k.waits ∙ (d.all_wait ∙ sym f.stays.held)) ∙ f.stands.waits)))
 
-    none_due : answers core.leading core.committed core.held ≡ answers_in after.world (writes ++ [])
+    none_due : answers core.leading core.closed core.held ≡ answers_in after.world (writes ++ [])
     none_due =
-        ap (λ l. answers l core.committed core.held) f.stands.leading
-        ∙ (ap (λ c. answers after.world.leading c core.held) f.stands.committed
+        ap (λ l. answers l core.closed core.held) f.stands.leading
+        ∙ (ap (λ c. answers after.world.leading c core.held) f.stands.closed
         ∙ ap (answers_in after.world) (f.stays.held ∙ held_then e s writes d k))
 
     accepted_by : IsAccepted e e.options s writes event core after
     accepted_by = record {
       stands = subst (λ (ws : List Write). IsEngine (counted_core core) (with_next_number after) ws) (sym still_wait) (counted_engine core after writes f.stands);
       outputs =
-          ap (λ g. (g ++ option_to_list core.refusal) ++ answers core.leading core.committed core.held) (f.outputs ∙ ap (λ g. g ++ append_fencings e.options (at_time_of s event) ids) d.none_given)
-          ∙ (ap (λ o. (append_fencings e.options (at_time_of s event) ids ++ option_to_list o) ++ answers core.leading core.committed core.held) (f.stays.refusal ∙ d.none_refused)
+          ap (λ g. (g ++ option_to_list core.refusal) ++ answers core.leading core.closed core.held) (f.outputs ∙ ap (λ g. g ++ append_fencings e.options (at_time_of s event) ids) d.none_given)
+          ∙ (ap (λ o. (append_fencings e.options (at_time_of s event) ids ++ option_to_list o) ++ answers core.leading core.closed core.held) (f.stays.refusal ∙ d.none_refused)
           ∙ ap (λ due. (append_fencings e.options (at_time_of s event) ids ++ []) ++ due) none_due
           ∙ ap (λ g. g ++ answers_in after.world (writes ++ [])) (right_nil (append_fencings e.options (at_time_of s event) ids)));
       held = f.stays.held ∙ held_then e s writes d k;

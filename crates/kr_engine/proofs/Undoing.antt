@@ -4,7 +4,7 @@ use Rattle.std.proofs.lemmas.Int.{ints}
 use Rattle.std.proofs.lemmas.List.{append-nil, append_assoc}
 use Rattle.std.proofs.lemmas.List.Elements.{filter-append, recursion_from_All}
 use Rattle.std.proofs.lemmas.List.Folds.{find-append}
-use Rattle.std.specs.Prelude.{◌+ℤ◌, Option, Some, Result, Ok, Err, OnOk, OnErr, IsTrue, find, int_lt, length, unwrap_or}
+use Rattle.std.specs.Prelude.{◌+ℤ◌, Option, Some, None, Result, Ok, Err, OnOk, OnErr, IsTrue, find, int_lt, length, unwrap_or}
 use Rattle.std.specs.List.{AllByRecursion}
 use Rattle.std.specs.Option.{option_map, option_or}
 use Rattle.std.specs.Ordering.{int_eq}
@@ -16,11 +16,12 @@ use Rattle.kr_defs.specs.declared.record.Record.{Record}
 use Rattle.kr_defs.specs.Heartbeats.{Heartbeats}
 use Rattle.kr_defs.specs.Image.{Image}
 use Rattle.kr_defs.specs.ImageLaws.{as_items}
-use Rattle.kr_store.specs.Images.{AreValid, Images, kept_at, marked, reverted}
+use Rattle.kr_store.specs.Images.{AreValid, Images, begun_at, begun_under, kept_at, marked, reverted}
 use Rattle.kr_store.proofs.LastKept.{last_found}
 use Rattle.kr_model.specs.Engine.{Core, IsSound, IsStep, outputs_left}
 use Rattle.kr_model.specs.Entries.{item_entries}
-use Rattle.kr_engine.specs.inner.Append.{Writes, batch_at, core_after_append, place_behind}
+use Rattle.kr_model.specs.Reasons.{led_epoch}
+use Rattle.kr_engine.specs.inner.Append.{Writes, batch_in, core_after_append, core_after_append_in, place_behind}
 use Rattle.kr_engine.specs.inner.Changes.{BreaksOff, GivesAlone, IsLonger, core_with_entries, counted_core}
 use Rattle.kr_engine.specs.inner.Ready.{IsReady}
 use Rattle.kr_model.proofs.LogEntries.{not_none}
@@ -37,16 +38,22 @@ nothing_longer images place = record {
   counts = [];
   calls = sym (append-nil images.kept_made);
   later_counts = tt;
+  begins = [];
+  begun = sym (append-nil images.kept_begun);
+  later_begins = tt;
 }
 
-same_longer : (before after : Images) (place : ℤ) → after.kept ≡ before.kept → after.kept_made ≡ before.kept_made → IsLonger before after place
-same_longer before after place kept calls = record {
+pub same_longer : (before after : Images) (place : ℤ) → after.kept ≡ before.kept → after.kept_made ≡ before.kept_made → after.kept_begun ≡ before.kept_begun → IsLonger before after place
+same_longer before after place kept calls begun = record {
   images = [];
   kept = kept ∙ sym (append-nil before.kept);
   later = tt;
   counts = [];
   calls = calls ∙ sym (append-nil before.kept_made);
   later_counts = tt;
+  begins = [];
+  begun = begun ∙ sym (append-nil before.kept_begun);
+  later_begins = tt;
 }
 
 module _ {X : Type 0} where
@@ -61,48 +68,65 @@ module _ {X : Type 0} where
 beyond : (place : ℤ) (n : ℕ) (z : ℤ) → int_lt (place +ℤ pos n) z ≡ true → int_lt place z ≡ true
 beyond place n z above = grind (arith, ints)
 
-longer_then : (a b c : Images) (place : ℤ) (n : ℕ) → IsLonger a b place → IsLonger b c (place +ℤ pos n) → IsLonger a c place
-longer_then a b c place n first then = record {
+-- from a later place on
+longer_on : (a b c : Images) (place later : ℤ) → ((z : ℤ) → int_lt later z ≡ true → int_lt place z ≡ true) → IsLonger a b place → IsLonger b c later → IsLonger a c place
+longer_on a b c place later beyond first then = record {
   images = first.images ++ then.images;
   kept = then.kept ∙ (ap (λ (ks : List (ℤ × Image)). ks ++ then.images) first.kept ∙ append_assoc a.kept first.images then.images);
   later = all_both (λ (k : ℤ × Image). int_lt place k.0 ≡ true) first.images then.images first.later
-      (all_so (λ (k : ℤ × Image). int_lt (place +ℤ pos n) k.0 ≡ true) (λ (k : ℤ × Image). int_lt place k.0 ≡ true) (λ k. beyond place n k.0) then.images then.later);
+      (all_so (λ (k : ℤ × Image). int_lt later k.0 ≡ true) (λ (k : ℤ × Image). int_lt place k.0 ≡ true) (λ k. beyond k.0) then.images then.later);
   counts = first.counts ++ then.counts;
   calls = then.calls ∙ (ap (λ (ms : List (ℤ × ℕ)). ms ++ then.counts) first.calls ∙ append_assoc a.kept_made first.counts then.counts);
   later_counts = all_both (λ (m : ℤ × ℕ). int_lt place m.0 ≡ true) first.counts then.counts first.later_counts
-      (all_so (λ (m : ℤ × ℕ). int_lt (place +ℤ pos n) m.0 ≡ true) (λ (m : ℤ × ℕ). int_lt place m.0 ≡ true) (λ m. beyond place n m.0) then.counts then.later_counts);
+      (all_so (λ (m : ℤ × ℕ). int_lt later m.0 ≡ true) (λ (m : ℤ × ℕ). int_lt place m.0 ≡ true) (λ m. beyond m.0) then.counts then.later_counts);
+  begins = first.begins ++ then.begins;
+  begun = then.begun ∙ (ap (λ (bs : List (ℤ × Option ℤ)). bs ++ then.begins) first.begun ∙ append_assoc a.kept_begun first.begins then.begins);
+  later_begins = all_both (λ (b : ℤ × Option ℤ). int_lt place b.0 ≡ true) first.begins then.begins first.later_begins
+      (all_so (λ (b : ℤ × Option ℤ). int_lt later b.0 ≡ true) (λ (b : ℤ × Option ℤ). int_lt place b.0 ≡ true) (λ b. beyond b.0) then.begins then.later_begins);
 }
+
+longer_then : (a b c : Images) (place : ℤ) (n : ℕ) → IsLonger a b place → IsLonger b c (place +ℤ pos n) → IsLonger a c place
+longer_then a b c place n first then = longer_on a b c place (place +ℤ pos n) (beyond place n) first then
 
 higher : (place : ℤ) (n : ℕ) → int_lt place (place +ℤ pos (suc n)) ≡ true
 higher place n = grind (arith, ints)
 
 -- one batch more
-one_longer : (before after : Images) (place : ℤ) (n : ℕ) (image : Image) (made : ℕ) → after.kept ≡ before.kept ++ (place +ℤ pos (suc n), image) ∷ []
-    → after.kept_made ≡ before.kept_made ++ (place +ℤ pos (suc n), made) ∷ [] → IsLonger before after place
-one_longer before after place n image made kept calls = record {
+one_longer : (before after : Images) (place : ℤ) (n : ℕ) (image : Image) (made : ℕ) (begun : Option ℤ) → after.kept ≡ before.kept ++ (place +ℤ pos (suc n), image) ∷ []
+    → after.kept_made ≡ before.kept_made ++ (place +ℤ pos (suc n), made) ∷ [] → after.kept_begun ≡ before.kept_begun ++ (place +ℤ pos (suc n), begun) ∷ [] → IsLonger before after place
+one_longer before after place n image made begun kept calls begins = record {
   images = (place +ℤ pos (suc n), image) ∷ [];
   kept = kept;
   later = (higher place n, tt);
   counts = (place +ℤ pos (suc n), made) ∷ [];
   calls = calls;
   later_counts = (higher place n, tt);
+  begins = (place +ℤ pos (suc n), begun) ∷ [];
+  begun = begins;
+  later_begins = (higher place n, tt);
 }
 
 written_longer : (e after : Core) (records : List Record) → Writes e after records → IsLonger e.images after.images e.tip
-written_longer e after [] w = same_longer e.images after.images e.tip w.kept w.counted.1
+written_longer e after [] w = same_longer e.images after.images e.tip w.kept w.counted.1 w.begins
 written_longer e after (r ∷ records) w =
-    one_longer e.images after.images e.tip (length records) after.images.tip w.counted.1.0
+    one_longer e.images after.images e.tip (length records) after.images.tip w.counted.1.0 after.images.begun
     (w.kept ∙ ap (λ b. cond b e.images.kept (e.images.kept ++ (place_behind e (r ∷ records), after.images.tip) ∷ [])) (not_none (length records)))
     w.counted.1.2
+    (w.begins ∙ ap (λ b. cond b e.images.kept_begun (e.images.kept_begun ++ (place_behind e (r ∷ records), after.images.begun) ∷ [])) (not_none (length records)))
 
 -- ---- an event that breaks off
 
--- nothing but the images is changed, and none is kept besides
-pub images_break : (e after : Core) → after ≡ record e { images = after.images } → after.images.kept ≡ e.images.kept → after.images.kept_made ≡ e.images.kept_made → BreaksOff e after
-images_break e after is kept calls = record {
+-- nothing but the images is changed, and later ones are kept besides
+pub longer_breaks : (e after : Core) → after ≡ record e { images = after.images } → IsLonger e.images after.images e.tip → BreaksOff e after
+longer_breaks e after is longer = record {
   same = subst (λ (a : Core). a ≡ record e { images = a.images; tip = a.tip; given = a.given; fresh = a.fresh }) (sym is) refl;
-  longer = same_longer e.images after.images e.tip kept calls;
+  longer = longer;
 }
+
+-- nothing but the images is changed, and none is kept besides
+pub images_break : (e after : Core) → after ≡ record e { images = after.images } → after.images.kept ≡ e.images.kept → after.images.kept_made ≡ e.images.kept_made
+    → after.images.kept_begun ≡ e.images.kept_begun → BreaksOff e after
+images_break e after is kept calls begun = longer_breaks e after is (same_longer e.images after.images e.tip kept calls begun)
 
 pub begun_breaks : (e after : Core) → GivesAlone e after → BreaksOff e after
 begun_breaks e after is = subst (λ (a : Core). BreaksOff e a) (sym is) (record { same = refl; longer = nothing_longer e.images e.tip })
@@ -116,16 +140,16 @@ begun_then e between after b is = subst (λ (a : Core). BreaksOff e a) (sym is) 
   longer = b.longer;
 })
 
--- a batch is appended behind the tip at which the event began
-pub appended_breaks : (e between after : Core) (records : List Record) → BreaksOff e between → between.tip ≡ e.tip → after ≡ core_after_append between records → BreaksOff e after
-appended_breaks e between after [] b at is = subst (λ (a : Core). BreaksOff e a) (sym is) b
-appended_breaks e between after (r ∷ records) b at is =
+-- a batch is appended in any epoch, behind the tip at which the event began
+pub appended_in_breaks : (e between after : Core) (epoch : ℤ) (records : List Record) → BreaksOff e between → between.tip ≡ e.tip → after ≡ core_after_append_in between epoch records → BreaksOff e after
+appended_in_breaks e between after epoch [] b at is = subst (λ (a : Core). BreaksOff e a) (sym is) b
+appended_in_breaks e between after epoch (r ∷ records) b at is =
     let all = r ∷ records in
     let end = place_behind between all in
     let behind : Core = record between {
       images = marked between.images end;
       tip = end;
-      given = between.given ++ given.Append (batch_bytes (batch_at between all)) ∷ [];
+      given = between.given ++ given.Append (batch_bytes (batch_in between epoch all)) ∷ [];
       fresh = between.fresh ++ item_entries between.tip (as_items all);
     } in
     let own : after ≡ behind = is ∙ ap (λ b. cond b between behind) (not_none (length records)) in
@@ -138,20 +162,37 @@ appended_breaks e between after (r ∷ records) b at is =
         counts = b.longer.counts ++ (end, between.images.made) ∷ [];
         calls = ap (λ (ms : List (ℤ × ℕ)). ms ++ (end, between.images.made) ∷ []) b.longer.calls ∙ append_assoc e.images.kept_made b.longer.counts ((end, between.images.made) ∷ []);
         later_counts = all_both (λ (m : ℤ × ℕ). int_lt e.tip m.0 ≡ true) b.longer.counts ((end, between.images.made) ∷ []) b.longer.later_counts (end_later, tt);
+        begins = b.longer.begins ++ (end, between.images.begun) ∷ [];
+        begun = ap (λ (bs : List (ℤ × Option ℤ)). bs ++ (end, between.images.begun) ∷ []) b.longer.begun ∙ append_assoc e.images.kept_begun b.longer.begins ((end, between.images.begun) ∷ []);
+        later_begins = all_both (λ (b : ℤ × Option ℤ). int_lt e.tip b.0 ≡ true) b.longer.begins ((end, between.images.begun) ∷ []) b.longer.later_begins (end_later, tt);
       };
     })
   where
     end_later : int_lt e.tip (place_behind between (r ∷ records)) ≡ true
     end_later = ap (λ t. int_lt e.tip (t +ℤ pos (suc (length records)))) at ∙ higher e.tip (length records)
 
+pub appended_breaks : (e between after : Core) (records : List Record) → BreaksOff e between → between.tip ≡ e.tip → after ≡ core_after_append between records → BreaksOff e after
+appended_breaks e between after records b at is = appended_in_breaks e between after (led_epoch between.leading) records b at is
+
 -- items are added, and then nothing
 pub added_breaks : (e between with_items after : Core) (new : List Entry) → after ≡ with_items → with_items ≡ core_with_entries between new → between ≡ record e { images = between.images }
-    → between.images.kept ≡ e.images.kept → between.images.kept_made ≡ e.images.kept_made → BreaksOff e after
-added_breaks e between with_items after new same adds is kept calls =
-    begun_then e between after (images_break e between is kept calls) (subst (λ (a : Core). GivesAlone between a) (sym (same ∙ adds)) refl)
+    → IsLonger e.images between.images e.tip → BreaksOff e after
+added_breaks e between with_items after new same adds is longer =
+    begun_then e between after (longer_breaks e between is longer) (subst (λ (a : Core). GivesAlone between a) (sym (same ∙ adds)) refl)
 
-pub adding_breaks : (e between after : Core) → GivesAlone between after → between ≡ record e { images = between.images } → between.images.kept ≡ e.images.kept → between.images.kept_made ≡ e.images.kept_made → BreaksOff e after
-adding_breaks e between after begins is kept calls = begun_then e between after (images_break e between is kept calls) begins
+pub adding_breaks : (e between after : Core) → GivesAlone between after → between ≡ record e { images = between.images } → IsLonger e.images between.images e.tip → BreaksOff e after
+adding_breaks e between after begins is longer = begun_then e between after (longer_breaks e between is longer) begins
+
+pub giving_breaks : (e between after : Core) → GivesAlone between after → between ≡ record e { images = between.images } → between.images.kept ≡ e.images.kept → between.images.kept_made ≡ e.images.kept_made
+    → between.images.kept_begun ≡ e.images.kept_begun → BreaksOff e after
+giving_breaks e between after begins is kept calls begun = begun_then e between after (images_break e between is kept calls begun) begins
+
+-- what comes behind a part of an event breaks off
+pub breaks_then : (e between after : Core) → BreaksOff e between → ((z : ℤ) → int_lt between.tip z ≡ true → int_lt e.tip z ≡ true) → BreaksOff between after → BreaksOff e after
+breaks_then e between after b later c = record {
+  same = c.same ∙ ap (λ (x : Core). record x { images = after.images; tip = after.tip; given = after.given; fresh = after.fresh }) b.same;
+  longer = longer_on e.images between.images after.images e.tip between.tip later b.longer c.longer;
+}
 
 -- records are written, and what comes then breaks off
 pub written_then : (e between after : Core) (records : List Record) → Writes e between records → between.held ≡ e.held → between.heard ≡ e.heard → BreaksOff between after → BreaksOff e after
@@ -167,8 +208,8 @@ written_then e between after records w held heard b = record {
 
 -- ---- the images that were found
 
-abbrev with_lists : Image → List (ℤ × Image) → List (ℤ × ℕ) → Images
-with_lists tip kept kept_made = record { kept = kept; tip = tip; made = 0; kept_made = kept_made }
+abbrev with_lists : Image → List (ℤ × Image) → List (ℤ × ℕ) → Option ℤ → List (ℤ × Option ℤ) → Images
+with_lists tip kept kept_made begun kept_begun = record { kept = kept; tip = tip; made = 0; kept_made = kept_made; begun = begun; kept_begun = kept_begun }
 
 module _ {X : Type 0} (place : ℤ) where
   abbrev stays : ℤ × X → Bool
@@ -194,6 +235,18 @@ keys : {X : Type 0} (P Q : ℤ → Type 0) → ((z : ℤ) → P z → Q z) → (
 keys P Q so [] all = tt
 keys P Q so (k ∷ ks) all = (so k.0 all.0, keys P Q so ks all.1)
 
+first_or : (o p : Option (ℤ × Option ℤ)) → p ≡ None → begun_under (option_or o p) ≡ begun_under o
+first_or None p is = ap begun_under is
+first_or (Some b) p is = refl
+
+none_found : (place : ℤ) (bs : List (ℤ × Option ℤ)) → AllByRecursion (λ (b : ℤ × Option ℤ). int_lt place b.0 ≡ true) bs → find (λ (b : ℤ × Option ℤ). int_eq b.0 place) bs ≡ None
+none_found place [] all = refl
+none_found place (b ∷ bs) all =
+    ap (λ t. cond t (Some b) (find (λ (b : ℤ × Option ℤ). int_eq b.0 place) bs)) (not_there place b.0 all.0) ∙ none_found place bs all.1
+  where
+    not_there : (place z : ℤ) → int_lt place z ≡ true → int_eq z place ≡ false
+    not_there place z above = grind (arith, ints)
+
 module _ (e : Core) (r : IsReady e) (valid : AreValid e.images) where
   low_places : AllByRecursion (λ z. int_lt e.tip z ≡ false) (map (λ (k : ℤ × Image). k.0) e.images.kept)
   low_places =
@@ -210,15 +263,33 @@ module _ (e : Core) (r : IsReady e) (valid : AreValid e.images) where
         ∙ (ap (option_map (λ (k : ℤ × Image). k.1)) (find-append (λ (k : ℤ × Image). int_eq k.0 e.tip) e.images.kept l.images)
         ∙ ap (λ (o : Option (ℤ × Image)). option_map (λ (k : ℤ × Image). k.1) (option_or o (find (λ (k : ℤ × Image). int_eq k.0 e.tip) l.images))) tip_found)
 
+    -- the transaction that was open then
+    begun_found : begun_at after e.tip ≡ e.images.begun
+    begun_found =
+        ap (λ (bs : List (ℤ × Option ℤ)). begun_under (find (λ (b : ℤ × Option ℤ). int_eq b.0 e.tip) bs)) l.begun
+        ∙ (ap begun_under (find-append (λ (b : ℤ × Option ℤ). int_eq b.0 e.tip) e.images.kept_begun l.begins)
+        ∙ (first_or (find (λ (b : ℤ × Option ℤ). int_eq b.0 e.tip) e.images.kept_begun) (find (λ (b : ℤ × Option ℤ). int_eq b.0 e.tip) l.begins) (none_found e.tip l.begins l.later_begins)
+        ∙ r.begun))
+
+    abbrev begun_stay : List (ℤ × Option ℤ)
+    begun_stay = filter (stays e.tip) after.kept_begun
+
+    begun_back : begun_stay ≡ e.images.kept_begun
+    begun_back =
+        ap (λ (bs : List (ℤ × Option ℤ)). filter (stays e.tip) bs) l.begun
+        ∙ first_stay e.tip e.images.kept_begun l.begins (subst (AllByRecursion (λ z. int_lt e.tip z ≡ false)) (sym valid.begun.beside) low_places) l.later_begins
+
     pub images_back : unwrap_or (reverted after e.tip) after ≡ e.images
     images_back =
-        ap (λ (o : Option Image). unwrap_or (option_map (λ (tip : Image). with_lists tip (filter (stays e.tip) after.kept) (filter (stays e.tip) after.kept_made)) o) after) found
-        ∙ (ap (λ (ks : List (ℤ × Image)). with_lists e.images.tip (filter (stays e.tip) ks) (filter (stays e.tip) after.kept_made)) l.kept
-        ∙ (ap (λ (ks : List (ℤ × Image)). with_lists e.images.tip ks (filter (stays e.tip) after.kept_made)) (first_stay e.tip e.images.kept l.images low_places l.later)
-        ∙ (ap (λ (ms : List (ℤ × ℕ)). with_lists e.images.tip e.images.kept (filter (stays e.tip) ms)) l.calls
-        ∙ (ap (λ (ms : List (ℤ × ℕ)). with_lists e.images.tip e.images.kept ms)
+        ap (λ (o : Option Image). unwrap_or (option_map (λ (tip : Image). with_lists tip (filter (stays e.tip) after.kept) (filter (stays e.tip) after.kept_made) (begun_at after e.tip) begun_stay) o) after) found
+        ∙ (ap (λ (ks : List (ℤ × Image)). with_lists e.images.tip (filter (stays e.tip) ks) (filter (stays e.tip) after.kept_made) (begun_at after e.tip) begun_stay) l.kept
+        ∙ (ap (λ (ks : List (ℤ × Image)). with_lists e.images.tip ks (filter (stays e.tip) after.kept_made) (begun_at after e.tip) begun_stay) (first_stay e.tip e.images.kept l.images low_places l.later)
+        ∙ (ap (λ (ms : List (ℤ × ℕ)). with_lists e.images.tip e.images.kept (filter (stays e.tip) ms) (begun_at after e.tip) begun_stay) l.calls
+        ∙ (ap (λ (ms : List (ℤ × ℕ)). with_lists e.images.tip e.images.kept ms (begun_at after e.tip) begun_stay)
         (first_stay e.tip e.images.kept_made l.counts (subst (AllByRecursion (λ z. int_lt e.tip z ≡ false)) (sym valid.beside) low_places) l.later_counts)
-        ∙ ap (λ m. record e.images { made = m }) (sym r.unmade)))))
+        ∙ (ap (λ b. with_lists e.images.tip e.images.kept e.images.kept_made b begun_stay) begun_found
+        ∙ (ap (λ bs. with_lists e.images.tip e.images.kept e.images.kept_made e.images.begun bs) begun_back
+        ∙ ap (λ m. record e.images { made = m }) (sym r.unmade)))))))
 
 -- ---- the engine that was found
 

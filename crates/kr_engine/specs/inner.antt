@@ -8,4 +8,5 @@ pub mod Load
 pub mod Lost
 pub mod Ready
 pub mod Request
+pub mod Settled
 pub mod Tick

@@ -9,7 +9,7 @@ ghost use Rattle.kr_calls.specs.declared.events.Output.TheVariants as given;
 ghost use Rattle.law_batch_limits.specs.Fitting.{FitsBatch};
 ghost use Rattle.kr_store.specs.Images.{IsAbove};
 ghost use Rattle.kr_model.specs.Reasons as reasons;
-ghost use Rattle.kr_engine.specs.inner.Append.{batch_at, core_after_append};
+ghost use Rattle.kr_engine.specs.inner.Append.{batch_in, core_after_append, core_after_append_in};
 ghost use Rattle.kr_engine.specs.inner.Changes.{GivesAlone};
 
 use crate::Engine;
@@ -70,17 +70,17 @@ fn place_behind(tip: &i64, records: &Records) -> i64
 }
 
 impl Engine {
-    // The batch of records at the tip, and its items.
+    // The batch of records at the tip, in the epoch, and its items.
     #[tactic(auto, using(crate::proofs::EventBatches::fits))]
-    fn batch_output(&self, records: Records) -> Result<(Output, Items), NoMemory>
+    fn batch_output(&self, epoch: &i32, records: Records) -> Result<(Output, Items), NoMemory>
         requires some { 1 ≤ length records }
         requires fits { FitsBatch records }
-        ensures output { IfOk result (λ x. x.0 ≡ given.Append (batch_bytes (batch_at self.now records))) }
+        ensures output { IfOk result (λ x. x.0 ≡ given.Append (batch_bytes (batch_in self.now epoch.now records))) }
         ensures items { IfOk result (λ x. x.1 ≡ as_items records) }
     {
         let batch = Batch {
             base: self.tip,
-            epoch: led_epoch(&self.leading),
+            epoch: *epoch,
             time: self.time,
             items: items_of(self.alloc, records)?,
         };
@@ -88,8 +88,28 @@ impl Engine {
         Ok((output, batch.items))
     }
 
-    // Appends records, behind which the present image is. Nothing is written where there are none.
+    // Appends records in the epoch, behind which the present image is. Nothing is written where there are none.
     #[tactic(auto, using(crate::proofs::EventBatches::some_records, crate::proofs::EventBatches::fits))]
+    pub(crate) fn append_in(&mut self, epoch: &i32, records: Records) -> Result<(), NoMemory>
+        requires low { self.old.tip ≤ℤ places_end }
+        requires fits { FitsBatch records }
+        requires above { (place : ℤ) → IsTrue (int_lt self.old.tip place) → IsAbove self.old.images.kept place }
+        ensures appended { OnOk result (self.new ≡ core_after_append_in self.old epoch.now records) }
+        ensures begun { OnErr result (GivesAlone self.old self.new) }
+    {
+        if records.is_empty() {
+            return Ok(());
+        }
+        let end = place_behind(&self.tip, &records);
+        let (output, items) = self.batch_output(epoch, records)?;
+        self.add_items(items)?;
+        self.given.push_back(output)?;
+        self.store.mark(end)?;
+        self.tip = end;
+        Ok(())
+    }
+
+    // The same in the led epoch.
     pub(crate) fn append(&mut self, records: Records) -> Result<(), NoMemory>
         requires low { self.old.tip ≤ℤ places_end }
         requires fits { FitsBatch records }
@@ -97,15 +117,7 @@ impl Engine {
         ensures appended { OnOk result (self.new ≡ core_after_append self.old records) }
         ensures begun { OnErr result (GivesAlone self.old self.new) }
     {
-        if records.is_empty() {
-            return Ok(());
-        }
-        let end = place_behind(&self.tip, &records);
-        let (output, items) = self.batch_output(records)?;
-        self.add_items(items)?;
-        self.given.push_back(output)?;
-        self.store.mark(end)?;
-        self.tip = end;
-        Ok(())
+        let epoch = led_epoch(&self.leading);
+        self.append_in(&epoch, records)
     }
 }

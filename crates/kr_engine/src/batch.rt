@@ -1,27 +1,25 @@
 //! A committed batch of another leader comes.
 
-ghost use Rattle.std.specs.Prelude.{◌≡◌, ◌≤◌, ◌≤ℤ◌, [], length, None, IfOk, OnOk, OnErr};
+ghost use Rattle.std.specs.Prelude.{◌≡◌, ◌≤◌, ◌≤ℤ◌, ◌+ℤ◌, [], length, pos, unwrap_or, None, IfOk, OnOk, OnErr};
 ghost use Rattle.kr_defs.specs.declared.limits.TheConstants.{MOST_RECORDS as most_records, PLACES_END as places_end};
-ghost use Rattle.kr_defs.specs.Log as logs;
 ghost use Rattle.kr_batch.specs.Reading.{batch_of};
 ghost use Rattle.kr_calls.specs.declared.events.Event.TheVariants as events;
-ghost use Rattle.kr_store.specs.Images.{kept_once};
-ghost use Rattle.kr_store.specs.Images.{IsAbove};
+ghost use Rattle.kr_store.specs.Images.{AreBegunFrom, AreValid, IsAbove, marked, reverted};
 ghost use Rattle.kr_model.specs.Engine.{IsSound, IsStep, outputs_left};
-ghost use Rattle.kr_engine.specs.inner.Changes.{core_at, BreaksOff, Settles};
+ghost use Rattle.kr_model.specs.Reasons.{ill_formed};
+ghost use Rattle.kr_engine.specs.inner.Changes.{refused_core, BreaksOff, IsLonger};
 ghost use Rattle.kr_engine.specs.inner.Ready.{IsReady};
+ghost use Rattle.kr_engine.specs.inner.Settled.{closed_behind, core_moved};
 ghost use Rattle.kr_model.specs.Batch.{end_of};
-ghost use Rattle.kr_engine.specs.inner.Batch.{batch_reason, core_after_batch, core_after_items, core_after_read_batch, decoded_batch_reason, items_reason, AppliesOrReverts};
+ghost use Rattle.kr_engine.specs.inner.Batch.{batch_reason, decoded_batch_reason, first_ill_of, items_reason, SettlesBatch, SettlesItems, TakesItems};
 
 use crate::Engine;
-use crate::apply::apply_or_revert;
-use crate::places::is_far;
+use crate::apply::apply_items;
+use crate::places::{closed_end, is_far};
 use crate::reasons::{already_leading, bad_batch, exhausted, gap, ill_formed};
 use kr_base::{NoMemory, Steps};
 use kr_batch::{Batch, BatchFault, decode};
 use kr_defs::{Bytes, Ill, Items};
-use kr_image::ImageStore;
-use kr_store::Store;
 use std::sync::ledger::Ledger;
 
 // One place above the last item.
@@ -33,35 +31,21 @@ fn end_of(batch: &Batch) -> i64
     batch.base + batch.items.len() as i64
 }
 
-// The present image is kept under the place, and no other is.
-#[tactic(auto, using(kr_store::proofs::Alone::alone))]
-fn keep_alone<L: Ledger>(
-    store: &mut ImageStore,
-    place: &i64,
-    steps: &mut Steps<L>,
-) -> Result<(), NoMemory>
-    requires above { IsAbove store.old.kept place.now }
-    ensures kept { OnOk result (store.new ≡ kept_once place.now store.old.tip) }
-    ensures same { OnErr result (store.new ≡ store.old) }
-    ensures later { steps.old ≤ steps.new }
-{
-    let _valid = store.counts();
-    store.mark(*place)?;
-    store.forget_below(*place, steps);
-    Ok(())
-}
-
 impl Engine {
-    // The present image is the committed one of the place.
+    // The present state is that of the place, which is committed; what is kept below its closed end is dropped.
     fn move_to<L: Ledger>(&mut self, place: &i64, steps: &mut Steps<L>) -> Result<(), NoMemory>
         requires above { IsAbove self.old.images.kept place.now }
-        ensures moved { OnOk result (self.new ≡ core_at self.old place.now self.old.images.tip) }
+        requires begun { AreBegunFrom (marked self.old.images place.now) (closed_behind self.old.images place.now) }
+        ensures moved { OnOk result (self.new ≡ core_moved self.old place.now) }
         ensures same { OnErr result (self.new ≡ self.old) }
         ensures later { steps.old ≤ steps.new }
     {
-        keep_alone(&mut self.store, place, steps)?;
+        self.store.mark(*place)?;
+        let closed = closed_end(&self.store.open(), place);
+        self.store.forget_below(closed, steps);
         self.tip = *place;
         self.committed = *place;
+        self.closed = closed;
         Ok(())
     }
 
@@ -72,33 +56,46 @@ impl Engine {
     ) -> Result<Option<(i64, Ill)>, NoMemory>
         requires ready { IsReady self.old }
         requires few { length items.now ≤ most_records }
-        ensures found { IfOk result (λ ill. ill ≡ logs.first_ill self.old.images.tip self.old.tip items.now) }
-        ensures applied { IfOk result (λ ill. AppliesOrReverts self.old.images self.new.images items.now ill) }
-        ensures kept { self.new.images.kept ≡ self.old.images.kept }
-        ensures calls { self.new.images.kept_made ≡ self.old.images.kept_made }
+        ensures found { IfOk result (λ ill. ill ≡ first_ill_of self.old items.now) }
+        ensures all { IfOk result (λ ill. ill ≡ None → TakesItems self.old.images self.new.images self.old.tip items.now) }
+        ensures longer { IsLonger self.old.images self.new.images self.old.tip }
         ensures same { self.new ≡ record self.old { images = self.new.images } }
         ensures later { steps.old ≤ steps.new }
     {
-        apply_or_revert(&mut self.store, &self.tip, items.as_slice(), steps)
+        apply_items(&mut self.store, &self.tip, items.as_slice(), steps)
+    }
+
+    // An item has no meaning: the images are those of the tip again.
+    fn refuse_items<L: Ledger>(&mut self, ill: &(i64, Ill), steps: &mut Steps<L>)
+        ensures refused { self.new ≡ refused_core (record self.old { images = unwrap_or (reverted self.old.images self.old.tip) self.old.images }) (ill_formed ill.now.0 ill.now.1) }
+        ensures later { steps.old ≤ steps.new }
+    {
+        let tip = self.tip;
+        self.revert_to(&tip, steps);
+        self.refuse(ill_formed(&ill.0, &ill.1));
     }
 
     // Each of the items has a meaning, or none stays.
-    #[tactic(auto, using(crate::proofs::Undoing::images_break, crate::proofs::Undoing::adding_breaks, crate::proofs::Undoing::added_breaks, crate::proofs::BatchSteps::item_refused, crate::proofs::BatchSteps::items_taken, crate::proofs::BatchSteps::still_above, crate::proofs::BatchSteps::still_low))]
+    #[tactic(auto, using(crate::proofs::BatchSteps::take_items))]
     fn take_items<L: Ledger>(
         &mut self,
         items: Items,
         end: &i64,
         steps: &mut Steps<L>,
     ) -> Result<(), NoMemory>
+        requires sound { IsSound self.old }
         requires ready { IsReady self.old }
+        requires valid { AreValid self.old.images }
+        requires standby { self.old.leading ≡ None }
         requires few { length items ≤ most_records }
-        requires above { IsAbove self.old.images.kept end.now }
-        ensures settled { OnOk result (Settles self.old self.new (items_reason (logs.first_ill self.old.images.tip self.old.tip items)) (core_after_items self.old items end.now)) }
+        requires end { end.now ≡ (self.old.tip +ℤ pos (length items)) }
+        requires some { 1 ≤ length items }
+        ensures settled { OnOk result (SettlesItems self.old self.new items end.now (items_reason (first_ill_of self.old items))) }
         ensures broken { OnErr result (BreaksOff self.old self.new) }
         ensures later { steps.old ≤ steps.new }
     {
         match self.apply_items(&items, steps)? {
-            Some((place, cause)) => self.refuse(ill_formed(&place, &cause)),
+            Some(ill) => self.refuse_items(&ill, steps),
             None => {
                 self.add_items(items)?;
                 self.move_to(end, steps)?;
@@ -107,13 +104,15 @@ impl Engine {
         Ok(())
     }
 
-    #[tactic(auto, using(crate::proofs::BatchSteps::ends_above))]
+    #[tactic(auto, using(crate::proofs::BatchSteps::taking_batch))]
     fn take_batch<L: Ledger>(&mut self, batch: Batch, steps: &mut Steps<L>) -> Result<(), NoMemory>
+        requires sound { IsSound self.old }
         requires ready { IsReady self.old }
+        requires valid { AreValid self.old.images }
         requires standby { self.old.leading ≡ None }
         requires some { 1 ≤ length batch.items }
         requires few { length batch.items ≤ most_records }
-        ensures settled { OnOk result (Settles self.old self.new (decoded_batch_reason self.old batch) (core_after_batch self.old batch)) }
+        ensures settled { OnOk result (SettlesItems self.old self.new batch.items (end_of batch) (decoded_batch_reason self.old batch)) }
         ensures broken { OnErr result (BreaksOff self.old self.new) }
         ensures later { steps.old ≤ steps.new }
     {
@@ -130,14 +129,16 @@ impl Engine {
         self.take_items(batch.items, &end, steps)
     }
 
-    #[tactic(auto, using(crate::proofs::BatchSteps::has_items))]
+    #[tactic(auto, using(crate::proofs::BatchSteps::settle_batch))]
     fn settle_batch<L: Ledger>(
         &mut self,
         bytes: &Bytes,
         steps: &mut Steps<L>,
     ) -> Result<(), NoMemory>
+        requires sound { IsSound self.old }
         requires ready { IsReady self.old }
-        ensures settled { OnOk result (Settles self.old self.new (batch_reason self.old (batch_of bytes.now)) (core_after_read_batch self.old (batch_of bytes.now))) }
+        requires valid { AreValid self.old.images }
+        ensures settled { OnOk result (SettlesBatch self.old self.new (batch_of bytes.now) (batch_reason self.old (batch_of bytes.now))) }
         ensures broken { OnErr result (BreaksOff self.old self.new) }
         ensures later { steps.old ≤ steps.new }
     {
@@ -158,7 +159,7 @@ impl Engine {
 
     /// A committed record batch of another leader came. All outputs are handed out before. After want of memory nothing has
     /// changed.
-    #[tactic(auto, using(crate::proofs::ReadyEngines::cleared_ready))]
+    #[tactic(auto, using(crate::proofs::ReadyEngines::cleared_ready, kr_model::proofs::SoundEngines::taken_sound))]
     pub fn batch<L: Ledger>(&mut self, bytes: &Bytes, steps: &mut Steps<L>) -> Result<(), NoMemory>
         requires sound { IsSound self.old }
         requires drained { outputs_left self.old ≡ [] }

@@ -2,6 +2,7 @@
 
 ghost use Rattle.std.specs.Prelude.{◌≡◌, ◌≤◌, ◌+◌, IfOk, OnOk, OnErr};
 ghost use Rattle.kr_calls.specs.Deciding.{weights};
+ghost use Rattle.kr_store.specs.Images.{IsSettled};
 ghost use Rattle.kr_engine.specs.inner.Changes.{BreaksOff};
 ghost use Rattle.kr_engine.specs.inner.Ready.{IsReady};
 ghost use Rattle.kr_engine.specs.inner.Request.{Decides, decided_by};
@@ -26,6 +27,8 @@ impl Engine {
         ensures kept { self.new.images.kept ≡ self.old.images.kept }
         ensures made { IfOk result (λ out. self.new.images.made ≤ self.old.images.made + weights self.old.images.tip out.records) }
         ensures calls { self.new.images.kept_made ≡ self.old.images.kept_made }
+        ensures begins { self.new.images.kept_begun ≡ self.old.images.kept_begun }
+        ensures settled { IsSettled self.old.images → IsSettled self.new.images }
         ensures same { self.new ≡ record self.old { images = self.new.images } }
         ensures later { steps.old ≤ steps.new }
     {

@@ -26,7 +26,7 @@ pub struct Engine {
     pub(crate) alloc: Global,
     /// The settings of the cluster, which never change.
     pub(crate) options: Options,
-    /// The image at the tip, and those kept at the committed end and at the ends of the batches above it.
+    /// The image at the tip, and those kept at the closed end and at the ends of the batches above it.
     pub(crate) store: ImageStore,
     /// Which brokers were heard of, and when, since this node leads.
     pub(crate) sessions: Sessions,
@@ -34,6 +34,8 @@ pub struct Engine {
     pub(crate) tip: i64,
     /// The place up to which the quorum has committed the log.
     pub(crate) committed: i64,
+    /// The place up to which it is settled: that of the transaction that is open at the committed end, or that end.
+    pub(crate) closed: i64,
     /// The leader epoch, while the node leads.
     pub(crate) leading: Option<i32>,
     /// The greatest leader epoch that it was told of, -1 before the first.
@@ -64,6 +66,7 @@ impl Drop for Engine {
             sessions,
             tip,
             committed,
+            closed,
             leading,
             greatest,
             count,
@@ -88,6 +91,7 @@ impl Model for Engine {
       heard = e.sessions.heartbeats;
       tip = e.tip;
       committed = e.committed;
+      closed = e.closed;
       leading = e.leading;
       greatest = e.greatest;
       count = e.count;
@@ -113,6 +117,7 @@ impl Engine {
             sessions: Sessions::new(alloc),
             tip: 0,
             committed: 0,
+            closed: 0,
             leading: None,
             greatest: -1,
             count: 0,
@@ -152,6 +157,14 @@ impl Engine {
         self.committed
     }
 
+    /// The first place of the log that isn't settled: that of the transaction that is open at the committed end, or that end
+    /// where none is open (KIP-868).
+    pub fn closed(&self) -> i64
+        ensures { result ≡ self.now.closed }
+    {
+        self.closed
+    }
+
     /// The epoch in which this node leads, none on standby.
     pub fn leading(&self) -> Option<i32>
         ensures { result ≡ self.now.leading }
@@ -159,7 +172,7 @@ impl Engine {
         self.leading
     }
 
-    /// The image, with those at the committed end and at the ends of the batches above it.
+    /// The image, with those at the closed end and at the ends of the batches above it.
     pub fn store(&self) -> &ImageStore
         ensures { result.now ≡ self.now.images }
     {

@@ -1,12 +1,13 @@
 //! What an event adds to the log.
 
-ghost use Rattle.std.specs.Prelude.{◌≡◌, ◌++◌, ◌+ℤ◌, ◌≤◌, ◌≤ℤ◌, pos, length, OnOk, OnErr};
+ghost use Rattle.std.specs.Prelude.{◌≡◌, ◌++◌, ◌≤◌, ◌≤ℤ◌, length, OnOk, OnErr};
 ghost use Rattle.kr_calls.specs.declared.events.Entry.TheVariants as entries;
 ghost use Rattle.kr_defs.specs.declared.limits.TheConstants.{MOST_RECORDS as most_records, PLACES_END as places_end};
 ghost use Rattle.kr_engine.specs.inner.Changes.{core_with_entries, GivesAlone};
 ghost use Rattle.kr_model.specs.Entries.{item_entries};
 
 use crate::Engine;
+use crate::places::Next;
 use kr_base::NoMemory;
 use kr_calls::Entry;
 use kr_defs::{Item, Items, Records};
@@ -26,27 +27,6 @@ pub(crate) fn image_entry(offset: &i64, records: Records) -> Entry
     Entry::Load {
         offset: *offset,
         records,
-    }
-}
-
-// The place of the next item.
-#[derive(Drop)]
-struct Next {
-    place: i64,
-}
-
-impl Next {
-    fn at(place: &i64) -> Next
-        ensures { result.place ≡ place.now }
-    {
-        Next { place: *place }
-    }
-
-    fn go_on(&mut self)
-        requires { self.old.place ≤ℤ (places_end +ℤ pos most_records) }
-        ensures { self.new.place ≡ (self.old.place +ℤ pos 1) }
-    {
-        self.place += 1;
     }
 }
 

@@ -1,4 +1,4 @@
-//! The committed image is given out.
+//! The image at the closed end is given out.
 
 ghost use Rattle.std.specs.Prelude.{◌≡◌, ◌≤ℤ◌, [], pos, unwrap_or, IfOk, OnOk, OnErr};
 ghost use Rattle.kr_calls.specs.declared.events.Event.TheVariants as events;
@@ -18,14 +18,14 @@ use kr_defs::Rows;
 use kr_snapshot::{SnapFault, write};
 
 impl Engine {
-    // The image at the committed end is always kept.
+    // The image at the closed end is always kept.
     fn image_output(&self) -> Result<Output, NoMemory>
-        requires natural { pos 0 ≤ℤ self.now.committed }
-        ensures { IfOk result (λ output. output ≡ given.Image (image_text self.now.committed (unwrap_or (kept_at self.now.images self.now.committed) empty))) }
+        requires natural { pos 0 ≤ℤ self.now.closed }
+        ensures { IfOk result (λ output. output ≡ given.Image (image_text self.now.closed (unwrap_or (kept_at self.now.images self.now.closed) empty))) }
     {
-        let at = at_epoch(&self.committed);
+        let at = at_epoch(&self.closed);
         let mut bytes = Vec::new(self.alloc);
-        match write(self.alloc, &self.store, at, self.committed, &mut bytes) {
+        match write(self.alloc, &self.store, at, self.closed, &mut bytes) {
             Ok(()) => Ok(Output::Image {
                 bytes: Rows::from_vec(bytes),
             }),
@@ -34,7 +34,7 @@ impl Engine {
     }
 
     fn settle_image(&mut self) -> Result<(), NoMemory>
-        requires natural { pos 0 ≤ℤ self.old.committed }
+        requires natural { pos 0 ≤ℤ self.old.closed }
         ensures settled { OnOk result (self.new ≡ core_after_image self.old) }
         ensures begun { OnErr result (GivesAlone self.old self.new) }
     {
@@ -43,7 +43,7 @@ impl Engine {
         Ok(())
     }
 
-    /// The committed image is asked for. All outputs are handed out before. After want of memory nothing has changed.
+    /// The image at the closed end is asked for. All outputs are handed out before. After want of memory nothing has changed.
     pub fn image(&mut self) -> Result<(), NoMemory>
         requires sound { IsSound self.old }
         requires drained { outputs_left self.old ≡ [] }

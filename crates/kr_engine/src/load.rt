@@ -63,6 +63,7 @@ impl Engine {
         self.store = store;
         self.tip = *offset;
         self.committed = *offset;
+        self.closed = *offset;
         Ok(())
     }
 

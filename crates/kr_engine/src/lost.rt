@@ -1,8 +1,7 @@
 //! The quorum takes a leadership back.
 
-ghost use Rattle.std.specs.Prelude.{◌≡◌, ◌≤◌, ◌+◌, List, [], unwrap_or};
+ghost use Rattle.std.specs.Prelude.{◌≡◌, ◌≤◌, ◌+◌, List, []};
 ghost use Rattle.kr_calls.specs.declared.events.Event.TheVariants as events;
-ghost use Rattle.kr_store.specs.Images.{reverted};
 ghost use Rattle.kr_engine.specs.inner.Changes.{counted_core, refused_core_or, cleared_core};
 ghost use Rattle.kr_engine.specs.inner.Commit.{steps_unless};
 ghost use Rattle.kr_engine.specs.inner.Lost.{core_after_lost, lost_reason, reverting_steps};
@@ -14,7 +13,7 @@ ghost use Rattle.kr_model.specs.World.{State};
 use crate::Engine;
 use crate::reasons::not_leading;
 use crate::writes::leads_in;
-use kr_base::{NoEpoch, Steps};
+use kr_base::Steps;
 use kr_calls::Reason;
 use std::sync::ledger::Ledger;
 
@@ -28,23 +27,14 @@ impl Engine {
         None
     }
 
-    // The image at the committed end is always kept.
-    fn revert_to_end<L: Ledger>(&mut self, steps: &mut Steps<L>)
-        ensures images { self.new ≡ record self.old { images = unwrap_or (reverted self.old.images self.old.committed) self.old.images } }
-        ensures bound { steps.new ≤ steps.old + reverting_steps self.old.images self.old.committed }
-        ensures later { steps.old ≤ steps.new }
-    {
-        match self.store.revert(self.committed, steps) {
-            Ok(()) | Err(NoEpoch) => {}
-        }
-    }
-
+    // A transaction that was open at the committed end is open again.
     fn end_leadership<L: Ledger>(&mut self, steps: &mut Steps<L>)
         ensures ended { self.new ≡ core_after_lost self.old }
         ensures bound { steps.new ≤ steps.old + reverting_steps self.old.images self.old.committed }
         ensures later { steps.old ≤ steps.new }
     {
-        self.revert_to_end(steps);
+        let end = self.committed;
+        self.revert_to(&end, steps);
         self.sessions.end();
         self.tip = self.committed;
         self.leading = None;

@@ -58,13 +58,13 @@ impl Engine {
 
     fn next_answer(&mut self) -> Option<Told>
         requires ordered { IsTrue (writes_in_order self.old.held) }
-        ensures in_order { outputs.told_answers self.old.leading self.old.committed self.old.held ≡ option_to_list result ++ outputs.told_answers self.old.leading self.old.committed self.new.held }
-        ensures none { IfNone result (outputs.told_answers self.old.leading self.old.committed self.new.held ≡ []) }
-        ensures waits { filter (outputs.is_open self.old.leading self.old.committed) self.new.held ≡ filter (outputs.is_open self.old.leading self.old.committed) self.old.held }
+        ensures in_order { outputs.told_answers self.old.leading self.old.closed self.old.held ≡ option_to_list result ++ outputs.told_answers self.old.leading self.old.closed self.new.held }
+        ensures none { IfNone result (outputs.told_answers self.old.leading self.old.closed self.new.held ≡ []) }
+        ensures waits { filter (outputs.is_open self.old.leading self.old.closed) self.new.held ≡ filter (outputs.is_open self.old.leading self.old.closed) self.old.held }
         ensures ordered { IsTrue (writes_in_order self.new.held) }
         ensures same { self.new ≡ record self.old { held = self.new.held } }
     {
-        next_due(&self.leading, &self.committed, &mut self.held)
+        next_due(&self.leading, &self.closed, &mut self.held)
     }
 
     /// The next output of the last event, as `next_output` hands it out, and with the reply of a write that waited how that

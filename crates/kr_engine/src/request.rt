@@ -130,7 +130,7 @@ fn hear_at(
 }
 
 impl Engine {
-    // The reply waits until all that the write saw or made is committed, and whom is heard of is noted.
+    // The reply waits until all that the write saw or made is below the closed end, and whom is heard of is noted.
     fn hold_reply(
         &mut self,
         client: &u32,
@@ -201,11 +201,11 @@ impl Engine {
         Ok(())
     }
 
-    // A read is answered on the committed image; a write is refused.
+    // A read is answered on the image at the closed end; a write is refused.
     fn reply_at_once(&self, request: &Request) -> Result<Reply, NoMemory>
         ensures { IfOk result (λ reply. reply ≡ reply_at_once self.now request.now) }
     {
-        let at = at_epoch(&self.committed);
+        let at = at_epoch(&self.closed);
         match read_reply(read(self.alloc, &self.store, at, &self.options, request))? {
             Some(reply) => Ok(reply),
             None => not_controller_reply(self.alloc, request),
@@ -298,8 +298,8 @@ impl Engine {
     }
 
     /// A client asks. A leading controller decides a write at the tip of its log, which then waits for its reply until all
-    /// that it saw or made is committed; on standby a write is refused at once by Kafka's NOT_CONTROLLER. A read is
-    /// answered at once on the committed image, and what is no call by an error alone. All outputs are handed out before.
+    /// that it saw or made is below the closed end; on standby a write is refused at once by Kafka's NOT_CONTROLLER. A read is
+    /// answered at once on the image at the closed end, and what is no call by an error alone. All outputs are handed out before.
     /// After want of memory nothing has changed.
     #[tactic(auto, using(crate::proofs::ReadyEngines::ready_then))]
     pub fn request<L: Ledger>(

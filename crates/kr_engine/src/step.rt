@@ -28,7 +28,7 @@ impl Engine {
         ensures later { steps.old ≤ steps.new }
     {
         match event {
-            Event::Lead { epoch, next, now } => self.lead(epoch, next, now),
+            Event::Lead { epoch, next, now } => self.lead(epoch, next, now, steps),
             Event::Commit { epoch, end } => {
                 self.commit(*epoch, *end, steps);
                 Ok(())

@@ -7,7 +7,7 @@ ghost use Rattle.kr_defs.specs.Heartbeats.{AreHeartbeats, leave};
 ghost use Rattle.kr_defs.specs.Map as entries;
 ghost use Rattle.kr_calls.specs.declared.events.Event.TheVariants as events;
 ghost use Rattle.kr_calls.specs.Deciding.{apply_records, weights};
-ghost use Rattle.kr_store.specs.Images.{AreValid, last_kept};
+ghost use Rattle.kr_store.specs.Images.{AreValid, IsSettled, last_kept};
 ghost use Rattle.kr_replication.specs.FencingIndex.{Indexes};
 ghost use Rattle.kr_model.specs.Engine.{IsSound, IsStep, outputs_left};
 ghost use Rattle.kr_engine.specs.inner.Ready.{IsReady, MayAppend};
@@ -65,6 +65,8 @@ fn fencing_of<L: Ledger>(
     ensures kept { store.new.kept ≡ store.old.kept }
     ensures made { IfOk result (λ records. store.new.made ≤ store.old.made + weights store.old.tip records) }
     ensures calls { store.new.kept_made ≡ store.old.kept_made }
+    ensures begins { store.new.kept_begun ≡ store.old.kept_begun }
+    ensures settled { IsSettled store.old → IsSettled store.new }
     ensures later { steps.old ≤ steps.new }
 {
     if !is_registered(&Seen::tip(store), broker) {
@@ -103,6 +105,8 @@ impl Engine {
         ensures kept { self.new.images.kept ≡ self.old.images.kept }
         ensures made { IfOk result (λ records. self.new.images.made ≤ self.old.images.made + weights self.old.images.tip records) }
         ensures calls { self.new.images.kept_made ≡ self.old.images.kept_made }
+        ensures begins { self.new.images.kept_begun ≡ self.old.images.kept_begun }
+        ensures settled { IsSettled self.old.images → IsSettled self.new.images }
         ensures same { self.new ≡ record self.old { images = self.new.images } }
         ensures later { steps.old ≤ steps.new }
     {

@@ -1,9 +1,10 @@
 //! Where memory is wanted, an event is taken back.
 
-ghost use Rattle.std.specs.Prelude.{◌≡◌, ◌≤◌, [], unwrap_or, OnOk, OnErr};
+ghost use Rattle.std.specs.Prelude.{◌≡◌, ◌≤◌, ◌+◌, [], unwrap_or, OnOk, OnErr};
 ghost use Rattle.std.specs.Int.{int_max};
 ghost use Rattle.kr_store.specs.Images.{reverted};
 ghost use Rattle.kr_engine.specs.inner.Changes.{cleared_core, counted_core};
+ghost use Rattle.kr_engine.specs.inner.Lost.{reverting_steps};
 
 use crate::Engine;
 use kr_base::{NoEpoch, NoMemory, Steps};
@@ -50,14 +51,23 @@ impl Engine {
         found
     }
 
-    // The image of the tip that was found is the present one, and no later one is kept.
+    // The state that is kept under the place is the present one, and no later one is kept. It is always there.
+    pub(crate) fn revert_to<L: Ledger>(&mut self, place: &i64, steps: &mut Steps<L>)
+        ensures images { self.new ≡ record self.old { images = unwrap_or (reverted self.old.images place.now) self.old.images } }
+        ensures bound { steps.new ≤ steps.old + reverting_steps self.old.images place.now }
+        ensures later { steps.old ≤ steps.new }
+    {
+        match self.store.revert(*place, steps) {
+            Ok(()) | Err(NoEpoch) => {}
+        }
+    }
+
+    // The state of the tip that was found is the present one, and no later one is kept.
     fn go_back<L: Ledger>(&mut self, found: &Found, steps: &mut Steps<L>)
         ensures back { self.new ≡ record self.old { images = unwrap_or (reverted self.old.images found.now.tip) self.old.images; tip = found.now.tip } }
         ensures later { steps.old ≤ steps.new }
     {
-        match self.store.revert(found.tip, steps) {
-            Ok(()) | Err(NoEpoch) => {}
-        }
+        self.revert_to(&found.tip, steps);
         self.tip = found.tip;
     }
 

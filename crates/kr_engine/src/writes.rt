@@ -18,7 +18,7 @@ pub(crate) fn leads_in(leading: &Option<i32>, epoch: &i32) -> bool
     }
 }
 
-/// The leadership that decided the write goes on, and what it needs isn't below the committed end yet.
+/// The leadership that decided the write goes on, and what it needs isn't below the closed end yet.
 pub(crate) fn is_open(leading: &Option<i32>, end: &i64, write: &Write) -> bool
     ensures { result ≡ outputs.is_open leading.now end.now write.now }
 {

@@ -27,6 +27,9 @@ batch_read batch = Ok batch
 pub batch_few : (batch : Batch) (bytes : List ℕ) → IsBatch batch bytes → length batch.items ≤ MOST_RECORDS
 batch_few batch bytes is = is.fixed.first.second.second.second.second.few
 
+pub batch_some : (batch : Batch) (bytes : List ℕ) → IsBatch batch bytes → 1 ≤ length batch.items
+batch_some batch bytes is = is.fixed.first.second.second.second.second.some
+
 -- where decoding answers a fault there is no batch, but for want of memory
 pub none_read : (bytes : List ℕ) (fault : BatchFault) → ((batch : Batch) → IsBatch batch bytes → IsFault fault (batch_read batch)) → IfOk (none_for fault) (λ o. IsBatchOrNone bytes o)
 none_read bytes faults.NoMemory only = tt

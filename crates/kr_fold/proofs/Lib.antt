@@ -4,6 +4,8 @@ pub mod BatchReading
 pub mod Batches
 pub mod Fronts
 pub mod PartReading
+pub mod ItemSteps
+pub mod KeptEnds
 pub mod LogReading
 pub mod Completeness
 pub mod CallEnds

@@ -1,6 +1,6 @@
 -- A log is read batch after batch.
 use Rattle.std.proofs.Common.{◌≡◌, ◌∙◌, ℕ, ◌+◌, ◌<◌, ◌≤◌, ◌⊎◌, ◌-◌, inl, inr, List, [], ◌∷◌, ◌++◌, length, length-append, append_assoc, ℤ, Option, Some, None, refl, sym, ap, subst, arith}
-use Rattle.std.specs.Prelude.{IfSome, IsSome, IsTrue, int_lt, pos, slice_get, ◌+ℤ◌}
+use Rattle.std.specs.Prelude.{IfSome, IsTrue, int_lt, pos, ◌+ℤ◌}
 use Rattle.std.proofs.lemmas.Int.{ints}
 use Rattle.kr_defs.specs.declared.limits.TheConstants.{MOST_RECORDS}
 use Rattle.std.specs.Io.KnownBytes.{Consumes, IsAtEnd}
@@ -17,10 +17,11 @@ use Rattle.kr_fold.specs.inner.SourceReads.{HasNone, Took}
 use Rattle.kr_fold.specs.Logs.{Folded, folded_with, IsLog, NoneFollows, nothing}
 use Rattle.kr_fold.specs.Endings.{ReadsLog, EndsLog, BreaksLog, IsBreak, IsLogFault, TookLog}
 use Rattle.kr_defs.specs.Image.{Image, empty}
-use Rattle.kr_store.specs.Images.{Images, IsAbove, kept_once, last_kept, marked, no_images}
+use Rattle.kr_defs.specs.LogStates.{closed}
+use Rattle.kr_store.specs.Images.{Images, marked, no_images, tip_state}
 use Rattle.kr_batch.proofs.Batches.{one_value}
 use Rattle.kr_fold.specs.declared.log.Place.{Place}
-use Rattle.kr_fold.specs.inner.NextBatches.{IsFollowed, IsWithin, KeepsOne, log_at}
+use Rattle.kr_fold.specs.inner.NextBatches.{IsFollowed, IsWithin, Stands, log_at, log_of}
 use Rattle.kr_fold.proofs.Sizes.{batch_sized, sized_front, no_size_none, cut_none}
 use Rattle.kr_fold.proofs.Batches.{log_more, log_of_none}
 use Rattle.kr_fold.proofs.Pieces.{consumes_none}
@@ -133,14 +134,14 @@ pub one_refused : (log : Folded) (read : Batch) (bytes : List ℕ) → IsBatch r
 one_refused log read bytes is none batch next other follows =
     let clash = sym none ∙ (ap (λ (b : Batch). folded_with log b) (one_value bytes read batch is other) ∙ follows) in cc
 
-pub reads_beyond : (left mid left' : Option (List ℕ)) (place next : Place) (before after : Image) (bytes : List ℕ) (batch : Batch) (tip : ℤ) (len : ℕ)
+pub reads_beyond : (left mid left' : Option (List ℕ)) (place next : Place) (before after : Images) (bytes : List ℕ) (batch : Batch) (tip : ℤ) (len : ℕ)
     → ReadsLog left mid (log_at place before) place.at → Consumes mid left' bytes → IsBatch batch bytes → IsFollowed place.tip before after batch (Some tip)
     → next.tip ≡ tip → next.at ≡ place.at + len → len ≡ length bytes → ReadsLog left left' (log_at next after) next.at
 reads_beyond left mid left' place next before after bytes batch tip len reads took spelled follows at_tip at whole =
-    let r = reads_more left mid left' (log_at place before) place.at reads (record { tip = tip; image = after }) bytes batch took spelled follows.0 in
+    let r = reads_more left mid left' (log_at place before) place.at reads (log_of tip after) bytes batch took spelled follows.0 in
     record {
       taken = r.taken;
-      is = subst (λ (t : ℤ). IsLog (record { tip = t; image = after }) r.taken) (sym at_tip) r.is;
+      is = subst (λ (t : ℤ). IsLog (log_of t after) r.taken) (sym at_tip) r.is;
       took = r.took;
       place = let p = r.place in omega (arith, p, at, whole);
     }
@@ -163,15 +164,23 @@ within_beyond place next bytes count tip len within tip_is few sized end at_tip 
 -- ---- at the start
 
 -- a new store with an epoch kept is empty, and keeps that one
-pub marked_new : (new store : Images) → new ≡ no_images → store ≡ marked new (pos 0) → KeepsOne store (pos 0) × (store.tip ≡ empty)
+pub marked_new : (new store : Images) → new ≡ no_images → store ≡ marked new (pos 0) → Stands store (pos 0) × (tip_state store ≡ closed empty)
 marked_new new store is kept =
     let whole : store ≡ marked no_images (pos 0) = kept ∙ ap (λ (i : Images). marked i (pos 0)) is in
-    (record { image = empty; is = ap (λ (i : Images). i.kept) whole }, ap (λ (i : Images). i.tip) whole)
+    (subst (λ (i : Images). Stands i (pos 0)) (sym whole) new_stands, ap (λ (i : Images). tip_state i) whole)
+  where
+    new_stands : Stands (marked no_images (pos 0)) (pos 0)
+    new_stands = record {
+      natural = omega (arith, ints);
+      may = inr refl;
+      above = All-from_recursion (λ (k : ℤ × Image). IsTrue (int_lt k.0 (pos 1))) ((pos 0, empty) ∷ []) (refl, tt);
+      keeps = record { low = (omega (arith, ints), tt); some = refl; closed = (refl, tt) };
+    }
 
-pub reads_nothing : (left : Option (List ℕ)) (place : Place) (image : Image) → place.tip ≡ pos 0 → place.at ≡ 0 → image ≡ empty → ReadsLog left left (log_at place image) place.at
-reads_nothing left place image tip at is = record {
+pub reads_nothing : (left : Option (List ℕ)) (place : Place) (images : Images) → place.tip ≡ pos 0 → place.at ≡ 0 → tip_state images ≡ closed empty → ReadsLog left left (log_at place images) place.at
+reads_nothing left place images tip at is = record {
   taken = [];
-  is = subst (λ (log : Folded). IsLog log []) (sym (ap (λ (t : ℤ). let log : Folded = record { tip = t; image = image } in log) tip ∙ ap (λ (i : Image). let log : Folded = record { tip = pos 0; image = i } in log) is)) log_of_none;
+  is = subst (λ (log : Folded). IsLog log []) (sym (ap (λ (t : ℤ). log_of t images) tip ∙ ap (λ s. let log : Folded = record { tip = pos 0; state = s } in log) is)) log_of_none;
   took = consumes_none left;
   place = at;
 }
@@ -213,16 +222,3 @@ read_forgotten left left' log at reads within = record {
   within = let e = length-append reads.taken [] in let p = reads.place in omega (arith, e, p, within);
   behind = inl none_unfinished;
 }
-
--- ---- the one epoch that is kept
-
-pub some_kept : (images : Images) (epoch : ℤ) → KeepsOne images epoch → IsSome (last_kept images)
-some_kept images epoch one = subst (λ (kept : List (ℤ × Image)). IsSome (slice_get kept (length kept - 1))) (sym one.is) refl
-
--- it is below those of more bytes
-pub one_below : (images after : Images) (at at' : ℕ) → KeepsOne images (pos at) → after.kept ≡ images.kept → at < at' → IsAbove after.kept (pos at')
-one_below images after at at' one same rises =
-    subst (λ (kept : List (ℤ × Image)). IsAbove kept (pos at')) (sym (same ∙ one.is)) (All-from_recursion (λ (k : ℤ × Image). IsTrue (int_lt k.0 (pos at'))) ((pos at, one.image) ∷ []) (grind (arith, ints, rises), tt))
-
-pub kept_alone : (images : Images) (epoch : ℤ) (image : Image) → images ≡ kept_once epoch image → KeepsOne images epoch
-kept_alone images epoch image is = record { image = image; is = ap (λ (i : Images). i.kept) is }

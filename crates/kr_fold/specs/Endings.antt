@@ -10,7 +10,7 @@ use Rattle.kr_snapshot.specs.ImageText.{image_text}
 use Rattle.kr_fold.specs.declared.fault.ToolFault.{ToolFault}
 use Rattle.kr_fold.specs.declared.fault.ToolFault.TheVariants as faults
 use Rattle.kr_fold.specs.SourceBytes.{longest, HasNoSize, IsBatchAtMost, IsCut, IsCutOff, IsLongest, IsSized, TookUpTo}
-use Rattle.kr_fold.specs.Logs.{Folded, IsLog, NoneFollows}
+use Rattle.kr_fold.specs.Logs.{Folded, IsLog, NoneFollows, settled_end, settled_image}
 use Rattle.kr_fold.specs.Images.{BreaksAt}
 
 -- ---- a log
@@ -65,7 +65,7 @@ IsLogFault left left' faults.WriteFault = ⊥
 pub record Folds (Writes : List ℕ → Type 0) (left left' : Option (List ℕ)) : Type 0 where
   pub log : Folded
   pub ends : EndsLog left left' log
-  pub wrote : Writes (image_text log.tip log.image)
+  pub wrote : Writes (image_text (settled_end log) (settled_image log))
 
 -- what each answer tells: the bytes of the image are written once all of the input is a log, and nothing before
 abbrev pub FoldEnds : Option (List ℕ) → Option (List ℕ) → Option (List ℕ) → Option (List ℕ) → Result (Unit {0}) ToolFault → Type 0

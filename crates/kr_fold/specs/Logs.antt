@@ -1,31 +1,40 @@
--- A log of batches from place 0 on, and the image that its items make (KIP-631).
+-- A log of batches from place 0 on, and the state that its items make (KIP-631, KIP-868).
 use Rattle.std.specs.Prelude.{◌≡◌, ℕ, ℤ, pos, ◌+ℤ◌, ◌<◌, List, [], ◌∷◌, ◌++◌, length, Option, Some, None, Result, Ok, Err, if◌then◌else◌}
-use Rattle.std.specs.Option.{option_and_then}
+use Rattle.std.specs.Option.{option_and_then, option_map_or}
 use Rattle.std.specs.Ordering.{int_eq}
 use Rattle.kr_defs.specs.declared.ill.Ill.{Ill}
 use Rattle.kr_defs.specs.Image.{Image, empty}
-use Rattle.kr_defs.specs.Log.{apply_all}
+use Rattle.kr_defs.specs.LogStates.{LogState, Opened, apply_all_at, closed}
+use Rattle.kr_store.specs.Images.{log_place}
 use Rattle.kr_wire.specs.Grammar.{Each}
 use Rattle.kr_batch.specs.declared.Batch.{Batch}
 use Rattle.kr_batch.specs.Grammar.{IsBatch}
 
--- a log so far: the place behind its last item, and the image that the items make
+-- a log so far: the place behind its last item, and the state that the items make
 pub record Folded : Type 0 where
   pub tip : ℤ
-  pub image : Image
+  pub state : LogState
 
 -- the log of no items
 abbrev pub nothing : Folded
-nothing = record { tip = pos 0; image = empty }
+nothing = record { tip = pos 0; state = closed empty }
 
-abbrev pub with_image : ℤ → Result Image Ill → Option Folded
-with_image tip (Ok image) = Some (record { tip = tip; image = image })
-with_image tip (Err cause) = None
+abbrev pub with_state : ℤ → Result LogState Ill → Option Folded
+with_state tip (Ok state) = Some (record { tip = tip; state = state })
+with_state tip (Err cause) = None
 
 -- with a batch more: it stands where the log ends, and all its items have a meaning
 abbrev pub folded_with : Folded → Batch → Option Folded
 folded_with log batch =
-    if int_eq batch.base log.tip then with_image (log.tip +ℤ pos (length batch.items)) (apply_all log.image batch.items) else None
+    if int_eq batch.base log.tip then with_state (log.tip +ℤ pos (length batch.items)) (apply_all_at log.state (log_place log.tip) batch.items) else None
+
+-- the end of what is settled: the place of a transaction that is open at the log's end, or that end
+abbrev pub settled_end : Folded → ℤ
+settled_end log = option_map_or (λ (o : Opened). pos o.place) log.state.opened log.tip
+
+-- the image there
+abbrev pub settled_image : Folded → Image
+settled_image log = option_map_or (λ (o : Opened). o.image) log.state.opened log.state.image
 
 abbrev pub folded : Folded → List Batch → Option Folded
 folded log [] = Some log

@@ -1,14 +1,18 @@
 //! The calls.
 
-ghost use Rattle.std.specs.Prelude.{◌≡◌, ◌≤◌, ◌≤ℤ◌, pos, IfOk, IfErr, IsErrOf, OnOk, OnErr};
+ghost use Rattle.std.specs.Prelude.{◌≡◌, ◌≤◌, ◌≤ℤ◌, pos, IfOk, IfErr, IfSome, IsErrOf, OnOk, OnErr};
 ghost use Rattle.std.specs.Io.KnownBytes.{Appends};
 ghost use Rattle.kr_base.specs.Causes.{Rose, Still};
 ghost use Rattle.kr_base.specs.FailedPuts.{AppendsFront};
+ghost use Rattle.kr_store.specs.declared.places.At.TheVariants as places;
+ghost use Rattle.kr_store.specs.Images.{image_of_place};
 ghost use Rattle.kr_wire.specs.Grammar.{Exactly};
 ghost use Rattle.kr_snapshot.specs.Grammar.{IsImage};
 ghost use Rattle.kr_snapshot.specs.ImageText.{image_text};
 ghost use Rattle.kr_fold.specs.Endings.{FoldEnds, FoldsWhole, FoldsNoMore, DumpEnds, Dumps, DumpsWhole, IsInputFault, RefusesBroken, RefusesLonger, TookAll};
 ghost use Rattle.kr_fold.specs.inner.ImageParts.{IsLongInput};
+ghost use Rattle.kr_fold.specs.inner.NextBatches.{Stands, log_of};
+ghost use Rattle.kr_fold.specs.Logs.{settled_end, settled_image};
 
 use crate::fault::ToolFault;
 use crate::image::read_image;
@@ -18,7 +22,8 @@ use kr_base::{NoMemory, Sink, Source};
 use kr_defs::Bytes;
 use kr_defs::limits::MOST_LOAD_BYTES;
 use kr_image::ImageStore;
-use kr_store::Seen;
+use kr_snapshot::SnapFault;
+use kr_store::{At, Seen, Store};
 use std::alloc::Global;
 use std::marker::Brand;
 use std::sync::ledger::Blank;
@@ -38,18 +43,42 @@ fn put<K: Sink>(output: &mut K, bytes: &[u8]) -> Result<(), ToolFault>
     }
 }
 
-// The bytes of the present image of a store, at an offset.
-fn image_bytes(alloc: Global, store: &ImageStore, offset: i64) -> Result<Vec<u8>, NoMemory>
-    requires { pos 0 ≤ℤ offset }
-    ensures { IfOk result (λ bytes. bytes.items ≡ image_text offset store.now.tip) }
+// The bytes of the image at the place, under the offset.
+fn image_bytes(alloc: Global, store: &ImageStore, at: At, offset: &i64) -> Result<Vec<u8>, NoMemory>
+    requires { pos 0 ≤ℤ offset.now }
+    ensures { IfOk result (λ bytes. IfSome (image_of_place store.now at)
+        (λ image. bytes.items ≡ image_text offset.now image)) }
 {
     let mut bytes = Vec::new(alloc);
-    kr_snapshot::write_seen(alloc, &Seen::tip(store), offset, &mut bytes)?;
-    Ok(bytes)
+    match kr_snapshot::write(alloc, store, at, *offset, &mut bytes) {
+        Ok(()) => Ok(bytes),
+        Err(SnapFault::NoEpoch | SnapFault::NoMemory) => Err(NoMemory),
+    }
+}
+
+fn at_epoch(epoch: &i64) -> At
+    ensures { result ≡ places.Epoch epoch.now }
+{
+    At::Epoch(*epoch)
+}
+
+// The bytes of the image below an open transaction, or of the present one, each with its place, of a log that ends at the tip.
+fn settled_bytes(alloc: Global, store: &ImageStore, tip: &i64) -> Result<Vec<u8>, NoMemory>
+    requires { Stands store.now tip.now }
+    ensures { IfOk result (λ bytes. bytes.items ≡ image_text
+        (settled_end (log_of tip.now store.now)) (settled_image (log_of tip.now store.now))) }
+{
+    let _valid = store.counts();
+    let begun = store.open();
+    match &begun {
+        Some(begin) => image_bytes(alloc, store, at_epoch(begin), begin),
+        None => image_bytes(alloc, store, At::Tip, tip),
+    }
 }
 
 /// Reads batches from place 0 to the end of the input, each at the end of the one before it, and writes the image that
-/// their items make, at their tip. Nothing is written before all of the input is read, and that by one put.
+/// their items make, at their tip; where a transaction is open there, the image at its begin. Nothing is written before
+/// all of the input is read, and that by one put.
 ///
 /// It answers Malformed at the first byte of the first batch that is no batch, stands elsewhere, or has an item without
 /// meaning; ReadFault or WriteFault where a read or the write failed; TooLong where 1,099,511,627,776 bytes were taken that
@@ -92,7 +121,7 @@ fn fold_log<S: Source, K: Sink>(
         Ok(log) => log,
         Err(fault) => return Err(fault),
     };
-    let bytes = image_bytes(alloc, &store, tip)?;
+    let bytes = settled_bytes(alloc, &store, &tip)?;
     put(output, bytes.as_slice())
 }
 

@@ -1,13 +1,14 @@
-//! A log's batches, one after the other, and the image that their items make.
+//! A log's batches, one after the other, and the state that their items make.
 
-ghost use Rattle.std.specs.Prelude.{◌≡◌, ◌+◌, ◌≤◌, ◌<◌, ◌≤ℤ◌, ◌+ℤ◌, pos, length, IfOk, IfErr, IfSome, IsErrOf, IsSome, OnErr, OnOk, Option};
+ghost use Rattle.std.specs.Prelude.{◌≡◌, ◌+◌, ◌≤◌, ◌<◌, ◌≤ℤ◌, ◌+ℤ◌, pos, length, IfOk, IfErr, IfSome, IsErrOf, IsSome, OnOk, None, Option};
 ghost use Rattle.std.specs.Ordering.{int_eq};
 ghost use Rattle.kr_defs.specs.declared.limits.TheConstants.{MOST_RECORDS as most_records, PLACES_END as places_end};
 ghost use Rattle.kr_base.specs.Causes.{Rose};
-ghost use Rattle.kr_store.specs.Images.{IsAbove, kept_once, last_kept};
+ghost use Rattle.kr_store.specs.Images.{AreValid, last_kept, tip_state};
+ghost use Rattle.kr_store.specs.ItemAnswers.{MayStand};
 ghost use Rattle.kr_fold.specs.Endings.{EndsLog, IsLogFault};
 ghost use Rattle.kr_fold.specs.inner.NextBatches as followed;
-ghost use Rattle.kr_fold.specs.inner.NextBatches.{AreApplied, IsItemApplied, IsFollowed, IsBatchOrNone, IsWithin, KeepsOne, ReadsOn};
+ghost use Rattle.kr_fold.specs.inner.NextBatches.{AreApplied, IsBeyond, IsItemApplied, IsFollowed, IsBatchOrNone, IsWithin, ReadsOn, Stands, log_of};
 ghost use Rattle.kr_fold.specs.SourceBytes.{longest};
 
 use crate::batch::read_batch;
@@ -20,7 +21,7 @@ use kr_store::{ApplyFault, Store};
 use std::alloc::Global;
 use std::sync::ledger::{Blank, Ledger};
 
-// Applies an item; the cause where it has no meaning.
+// Applies an item, which stands at the place; the cause where it has no meaning.
 fn apply_one<S: Store, L: Ledger>(
     store: &mut S,
     place: &i64,
@@ -28,14 +29,37 @@ fn apply_one<S: Store, L: Ledger>(
     steps: &mut Steps<L>,
 ) -> Result<Option<Ill>, NoMemory>
     requires kept { IsSome (last_kept (S.images store.old)) }
-    ensures applied { IfOk result (λ ill. IsItemApplied (S.images store.old).tip
-        (S.images store.new).tip item.now ill) }
-    ensures kept { (S.images store.new).kept ≡ (S.images store.old).kept }
+    requires stands { MayStand (S.images store.old) place.now item.now }
+    ensures applied { IfOk result (λ ill. IsItemApplied (S.images store.old)
+        (S.images store.new) place.now item.now ill) }
+    ensures valid { AreValid (S.images store.old) }
 {
-    match store.apply(*place, item, steps) {
+    let _valid = store.counts();
+    match store.apply_at(*place, item, steps) {
         Ok(()) => Ok(None),
         Err(ApplyFault::IllFormed { cause, .. }) => Ok(Some(cause)),
         Err(ApplyFault::NoMemory) => Err(NoMemory),
+    }
+}
+
+// The place of the next item.
+#[derive(Drop)]
+struct Next {
+    place: i64,
+}
+
+impl Next {
+    fn at(place: &i64) -> Next
+        ensures { result.place ≡ place.now }
+    {
+        Next { place: *place }
+    }
+
+    fn go_on(&mut self)
+        requires { self.old.place ≤ℤ (places_end +ℤ pos most_records) }
+        ensures { self.new.place ≡ (self.old.place +ℤ pos 1) }
+    {
+        self.place += 1;
     }
 }
 
@@ -46,25 +70,27 @@ fn apply_items<S: Store, L: Ledger>(
     items: &[Item],
     steps: &mut Steps<L>,
 ) -> Result<Option<Ill>, NoMemory>
-    requires kept { IsSome (last_kept (S.images store.old)) }
+    requires stands { Stands (S.images store.old) place.now }
     requires low { place.now ≤ℤ places_end }
+    requires some { 1 ≤ length items.now }
     requires few { length items.now ≤ most_records }
-    ensures applied { IfOk result (λ ill. AreApplied (S.images store.old).tip
-        (S.images store.new).tip items.now ill) }
-    ensures kept { (S.images store.new).kept ≡ (S.images store.old).kept }
+    ensures applied { IfOk result (λ ill. AreApplied (S.images store.old)
+        (S.images store.new) place.now items.now ill) }
+    ensures beyond { IfOk result (λ ill. ill ≡ None →
+        IsBeyond (S.images store.new) (place.now +ℤ pos (length items.now))) }
 {
-    let mut at = *place;
+    let mut next = Next::at(place);
     for item in items {
-        if let Some(cause) = apply_one(store, &at, item, steps)? {
-            return Ok(Some(cause));
+        match apply_one(store, &next.place, item, steps)? {
+            Some(cause) => return Ok(Some(cause)),
+            None => next.go_on(),
         }
-        at += 1;
     }
     Ok(None)
 }
 
 // The batch that all of the bytes stand for, if they stand for one.
-#[tactic(auto, using(crate::proofs::Batches::batch_few, crate::proofs::Batches::none_read))]
+#[tactic(auto, using(crate::proofs::Batches::batch_some, crate::proofs::Batches::batch_few, crate::proofs::Batches::none_read))]
 fn batch_of(alloc: Global, bytes: &[u8]) -> Result<Option<Batch>, NoMemory>
     ensures { IfOk result (λ batch. IsBatchOrNone bytes.now batch) }
 {
@@ -97,12 +123,13 @@ fn follow<S: Store, L: Ledger>(
     batch: &Batch,
     steps: &mut Steps<L>,
 ) -> Result<Option<i64>, NoMemory>
-    requires kept { IsSome (last_kept (S.images store.old)) }
+    requires stands { Stands (S.images store.old) tip.now }
     requires low { tip.now ≤ℤ places_end }
+    requires some { 1 ≤ length batch.now.items }
     requires few { length batch.now.items ≤ most_records }
-    ensures next { IfOk result (λ next. IsFollowed tip.now (S.images store.old).tip
-        (S.images store.new).tip batch.now next) }
-    ensures kept { (S.images store.new).kept ≡ (S.images store.old).kept }
+    ensures next { IfOk result (λ next. IsFollowed tip.now (S.images store.old)
+        (S.images store.new) batch.now next) }
+    ensures beyond { IfOk result (λ next. IfSome next (λ tip. IsBeyond (S.images store.new) tip)) }
 {
     if !stands_at(&batch.base, tip) {
         return Ok(None);
@@ -150,12 +177,13 @@ fn read_next<S: Source, L: Ledger>(
     place: &Place,
     steps: &mut Steps<L>,
 ) -> Result<Option<Place>, ToolFault>
-    requires kept { IsSome (last_kept store.old) }
+    requires stands { Stands store.old place.now.tip }
     requires within { IsWithin place.now }
     ensures next { ReadsOn (S.left source.old)
-        (S.left source.new) place.now store.old.tip store.new.tip result }
+        (S.left source.new) place.now store.old store.new result }
     ensures within { IfOk result (λ next. IfSome next (λ p. IsWithin p × (place.now.at < p.at))) }
-    ensures kept { store.new.kept ≡ store.old.kept }
+    ensures beyond { IfOk result (λ next. IfSome next (λ p. IsBeyond store.new p.tip)) }
+    ensures same { IfOk result (λ next. next ≡ None → store.new ≡ store.old) }
     ensures read { IsErrOf result ToolFault.ReadFault →
         Rose (S.faults source.old) (S.faults source.new) }
     ensures later { S.faults source.old ≤ S.faults source.new }
@@ -177,32 +205,47 @@ fn read_next<S: Source, L: Ledger>(
     Ok(Some(beyond(place, tip, bytes.len())))
 }
 
-// How many bytes were read, as an epoch.
-fn epoch_of(place: &Place) -> i64
-    requires { IsWithin place.now }
-    ensures { result ≡ pos place.now.at }
-{
-    place.at as i64
-}
-
-// The present image is kept under the epoch, and no other is.
-#[tactic(auto, using(kr_store::proofs::Alone::alone))]
-fn keep_alone<L: Ledger>(
+// What is kept of a log that ends at the tip: the place of the open transaction and those above it, or the tip alone.
+// What the batches below took out takes no memory then.
+#[tactic(auto, using(crate::proofs::KeptEnds::kept_ends))]
+fn keep_end<L: Ledger>(
     store: &mut ImageStore,
-    epoch: &i64,
+    tip: &i64,
     steps: &mut Steps<L>,
 ) -> Result<(), NoMemory>
-    requires { IsAbove store.old.kept epoch.now }
-    ensures kept { OnOk result (store.new ≡ kept_once epoch.now store.old.tip) }
-    ensures same { OnErr result (store.new ≡ store.old) }
+    requires { IsBeyond store.old tip.now }
+    ensures stands { OnOk result (Stands store.new tip.now) }
+    ensures state { OnOk result (tip_state store.new ≡ tip_state store.old) }
 {
     let _valid = store.counts();
-    store.mark(*epoch)?;
-    store.forget_below(*epoch, steps);
+    match store.open() {
+        Some(begin) => {
+            store.forget_below(begin, steps);
+            Ok(())
+        }
+        None => keep_alone(store, tip, steps),
+    }
+}
+
+// The present image is kept under the tip, and no other is.
+#[tactic(auto, using(kr_store::proofs::Alone::alone, crate::proofs::KeptEnds::kept_alone))]
+fn keep_alone<L: Ledger>(
+    store: &mut ImageStore,
+    tip: &i64,
+    steps: &mut Steps<L>,
+) -> Result<(), NoMemory>
+    requires beyond { IsBeyond store.old tip.now }
+    requires none { store.old.begun ≡ None }
+    ensures stands { OnOk result (Stands store.new tip.now) }
+    ensures state { OnOk result (tip_state store.new ≡ tip_state store.old) }
+{
+    let _valid = store.counts();
+    store.mark(*tip)?;
+    store.forget_below(*tip, steps);
     Ok(())
 }
 
-// Reads the next batch, and keeps the image behind it alone: what its batch and those before took out takes no memory then.
+// Reads the next batch, and keeps no more of the log than it takes.
 fn read_on<S: Source, L: Ledger>(
     alloc: Global,
     source: &mut S,
@@ -210,12 +253,13 @@ fn read_on<S: Source, L: Ledger>(
     place: &Place,
     steps: &mut Steps<L>,
 ) -> Result<Option<Place>, ToolFault>
-    requires alone { KeepsOne store.old (pos place.now.at) }
+    requires stands { Stands store.old place.now.tip }
     requires within { IsWithin place.now }
     ensures next { ReadsOn (S.left source.old)
-        (S.left source.new) place.now store.old.tip store.new.tip result }
+        (S.left source.new) place.now store.old store.new result }
     ensures within { IfOk result (λ next. IfSome next (λ p. IsWithin p × (place.now.at < p.at))) }
-    ensures alone { IfOk result (λ next. IfSome next (λ p. KeepsOne store.new (pos p.at))) }
+    ensures stands { IfOk result (λ next. IfSome next (λ p. Stands store.new p.tip)) }
+    ensures same { IfOk result (λ next. next ≡ None → store.new ≡ store.old) }
     ensures read { IsErrOf result ToolFault.ReadFault →
         Rose (S.faults source.old) (S.faults source.new) }
     ensures later { S.faults source.old ≤ S.faults source.new }
@@ -225,11 +269,11 @@ fn read_on<S: Source, L: Ledger>(
         Ok(None) => return Ok(None),
         Err(fault) => return Err(fault),
     };
-    keep_alone(store, &epoch_of(&next), steps)?;
+    keep_end(store, &next.tip, steps)?;
     Ok(Some(next))
 }
 
-/// Reads a log from place 0 to the end of the input: the store of its image, and the place behind its last item.
+/// Reads a log from place 0 to the end of the input: the store of its state, and the place behind its last item.
 pub(crate) fn read_log<S: Source, L: Ledger>(
     alloc: Global,
     source: &mut S,
@@ -239,8 +283,8 @@ pub(crate) fn read_log<S: Source, L: Ledger>(
     requires parts { blank.parts ≡ L.parts }
     requires whole { 0 < L.parts }
     ensures log { IfOk result (λ x. EndsLog (S.left source.old) (S.left source.new)
-        (record { tip = x.1; image = x.0.tip })) }
-    ensures natural { IfOk result (λ x. pos 0 ≤ℤ x.1) }
+        (log_of x.1 x.0)) }
+    ensures stands { IfOk result (λ x. Stands x.0 x.1) }
     ensures fault { IfErr result
         (λ fault. IsLogFault (S.left source.old) (S.left source.new) fault) }
     ensures read { IsErrOf result ToolFault.ReadFault →
@@ -249,7 +293,7 @@ pub(crate) fn read_log<S: Source, L: Ledger>(
 {
     let mut steps: Steps<L> = Steps::new(blank);
     let mut store = ImageStore::new(alloc);
-    store.mark(0)?; // no byte is read
+    store.mark(0)?; // the empty image
     let mut place = Place { tip: 0, at: 0 };
     loop {
         match read_on(alloc, source, &mut store, &place, &mut steps) {

@@ -5,6 +5,7 @@ ghost use Rattle.kr_calls.specs.Deciding.{weights};
 ghost use Rattle.kr_calls.specs.declared.calls.Reply.TheVariants as replies;
 ghost use Rattle.kr_handlers.specs.Decided.{decided_in};
 ghost use Rattle.kr_rules.specs.Handlers.{IsAtPlace};
+ghost use Rattle.kr_store.specs.Images.{IsSettled};
 
 use kr_base::{NoMemory, Steps};
 use kr_brokers::{BrokerHeartbeatHandler, BrokerRegistrationHandler, UnregisterBrokerHandler};
@@ -54,6 +55,8 @@ pub fn decide<S: Store, L: Ledger>(
         (S.images store.old).made + weights (S.images store.old).tip effect.records) }
     ensures kept { (S.images store.new).kept ≡ (S.images store.old).kept }
     ensures calls { (S.images store.new).kept_made ≡ (S.images store.old).kept_made }
+    ensures begins { (S.images store.new).kept_begun ≡ (S.images store.old).kept_begun }
+    ensures settled { IsSettled (S.images store.old) → IsSettled (S.images store.new) }
     ensures later { steps.old ≤ steps.new }
 {
     match request {

@@ -91,7 +91,7 @@ impl LinkImages {
         unreachable!()
     }
 
-    // Sends the image at the committed end as one frame. Where one took the place of all meanwhile, or the room was too small,
+    // Sends the image at the closed end as one frame. Where one took the place of all meanwhile, or the room was too small,
     // it is made anew, in the second case with twice the room; where memory ran out, too, after a rest.
     fn send<R: Wait + time::Clock>(&mut self, rt: &R) -> Result<(), ImageFault> {
         for _ in rt.forever() {
@@ -117,7 +117,7 @@ impl LinkImages {
         }
     }
 
-    // Pins the committed end while the image is made.
+    // Pins the closed end while the image is made.
     fn attempt<R: Wait + time::Clock>(&mut self, rt: &R) -> Result<Attempt, ImageFault> {
         let place = match self.seat.pin(rt) {
             Ok(place) => place,

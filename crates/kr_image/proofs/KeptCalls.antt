@@ -10,7 +10,7 @@ use Rattle.kr_defs.specs.declared.partition.Partition.{Partition}
 use Rattle.kr_defs.specs.declared.record.ConfigKey.{ConfigKey}
 use Rattle.kr_defs.specs.declared.record.Topic.{Topic}
 use Rattle.kr_image.specs.declared.kept_counts.KeptCounts.{KeptCounts}
-use Rattle.kr_image.specs.Timelines.{Keeps, undone_in, undone_of, covered_in, covered_of}
+use Rattle.kr_image.specs.Timelines.{Keeps, all_above, undone_in, undone_of, covered_in, covered_of}
 use Rattle.kr_image.specs.KeptImages.{HaveEpochs, made_in, none_made, with_made}
 use Rattle.kr_image.proofs.KeptLists.{filter_map_is, map_push}
 
@@ -384,6 +384,12 @@ module _ (kept : Keeps) (list : List KeptCounts) (have : HaveEpochs kept (map (�
       let q : ℤ → Bool = λ x. int_lt epoch x in
       let none : calls_of (filter (λ (m : ℤ × ℕ). int_lt epoch m.0) (in0)) ≡ 0 = none_calls (filter (λ (m : ℤ × ℕ). int_lt epoch m.0) (in0)) (filter (λ (k : KeptCounts). int_lt epoch k.epoch) list) (sym (none_left q list)) in
       omega (arith, none, undone_with kept.features in0 same0 epoch, undone_with kept.configs in1 same1 epoch, undone_with kept.partitions in2 same2 epoch, undone_with kept.topics in3 same3 epoch, undone_with kept.names in4 same4 epoch, undone_with kept.brokers in5 same5 epoch, length1 q, length2 q, length3 q, length4 q, length5 q, length6 q)
+
+  pub above_all : (epoch : ℤ) → all_above kept epoch ≡ calls_of (filter (λ (m : ℤ × ℕ). int_lt epoch m.0) (made_in kept list))
+  above_all epoch =
+      let q : ℤ → Bool = λ x. int_lt epoch x in
+      let none : calls_of (filter (λ (m : ℤ × ℕ). int_lt epoch m.0) (in0)) ≡ 0 = none_calls (filter (λ (m : ℤ × ℕ). int_lt epoch m.0) (in0)) (filter (λ (k : KeptCounts). int_lt epoch k.epoch) list) (sym (none_left q list)) in
+      omega (arith, none, sum_passing kept.features in0 same0 q, sum_passing kept.configs in1 same1 q, sum_passing kept.partitions in2 same2 q, sum_passing kept.topics in3 same3 q, sum_passing kept.names in4 same4 q, sum_passing kept.brokers in5 same5 q)
 
   pub covered_all : (epoch : ℤ) → covered_of kept epoch ≡ calls_of (filter (λ (m : ℤ × ℕ). int_lt m.0 epoch) (made_in kept list)) + calls_of (take 1 (filter (λ (m : ℤ × ℕ). not (int_lt m.0 epoch)) (made_in kept list))) + 6 * length (filter (λ (m : ℤ × ℕ). int_lt m.0 epoch) (made_in kept list))
   covered_all epoch =

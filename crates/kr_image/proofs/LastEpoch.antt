@@ -1,6 +1,6 @@
 -- The last kept epoch: going back to it drops nothing.
 use Rattle.std.proofs.Common.{◌≡◌, ℤ, true, false, not, List, [], ◌∷◌, ◌++◌, refl, sym, ap, subst, ◌∙◌, map, filter, find, arith}
-use Rattle.std.specs.Prelude.{Some, None, IsTrue, IsSome, int_lt}
+use Rattle.std.specs.Prelude.{Option, Some, None, IsTrue, IsSome, int_lt}
 use Rattle.std.specs.Option.{option_map}
 use Rattle.std.specs.declared.cmp.Ordering.TheVariants.{Less}
 use Rattle.std.specs.Ordering.{int_cmp, int_eq}
@@ -91,8 +91,8 @@ module _ (t after : Timelines) (list : List KeptCounts) (k : KeptCounts) (is_las
   pub back_store : IsStore after list
   back_store = subst (IsStore after) (all_left (keeps_of t) list k is.rising is_last) (reverted_store t after k.epoch reverts list k (last_found (keeps_of t) list k is.rising is_last) counts is)
 
-  pub back_image : last_image (images_of t list) ≡ Some (present_image after)
-  back_image = ap (option_map (λ (e : ℤ × Image). e.1)) (last_map (λ (x : KeptCounts). (x.epoch, image_in (keeps_of t) x.epoch)) list ∙ ap (option_map (λ (x : KeptCounts). (x.epoch, image_in (keeps_of t) x.epoch))) is_last) ∙ ap (λ (i : Image). Some i) (sym reverts.tip)
+  pub back_image : (begun : Option ℤ) → last_image (images_of t list begun) ≡ Some (present_image after)
+  back_image begun = ap (option_map (λ (e : ℤ × Image). e.1)) (last_map (λ (x : KeptCounts). (x.epoch, image_in (keeps_of t) x.epoch)) list ∙ ap (option_map (λ (x : KeptCounts). (x.epoch, image_in (keeps_of t) x.epoch))) is_last) ∙ ap (λ (i : Image). Some i) (sym reverts.tip)
 
 -- ---- what the timelines need for a mark and a revert
 

@@ -17,7 +17,7 @@ use Rattle.kr_store.specs.declared.places.At.TheVariants as places
 use Rattle.kr_image.specs.declared.kept_counts.KeptCounts.{KeptCounts}
 use Rattle.kr_image.specs.declared.timelines.Timelines.{Timelines}
 use Rattle.kr_image.specs.Timelines.{Keeps, keeps_of, kept_in, map_in, image_in, IsIndex}
-use Rattle.kr_image.specs.KeptImages.{images_in, images_of, IsCountedRight, IsStore}
+use Rattle.kr_image.specs.KeptImages.{images_in, images_of, IsCountedRight, IsStoreWith}
 use Rattle.kr_image.specs.inner.TimelineMaps.{entries_at}
 use Rattle.kr_defs.proofs.Tests.{some_is}
 use Rattle.kr_image.proofs.KeptLists.{find_map, all_map}
@@ -45,44 +45,44 @@ module _ {K V : Type 0} where
   pub kept_there : (f : Image → List (K × V)) (kept : Keeps) (ks : List (KeptMap K V)) (list : List KeptCounts) → map (λ (k : KeptMap K V). k.epoch) ks ≡ map (λ (k : KeptCounts). k.epoch) list → ((x : ℤ) → f (image_in kept x) ≡ map_in ks x) → (epoch : ℤ) → kept_in ks epoch ≡ option_map f (option_map (λ (e : ℤ × Image). e.1) (find (λ (e : ℤ × Image). int_eq e.0 epoch) (images_in kept list)))
   kept_there f kept ks list same is epoch = alike_cases (find (λ (k : KeptMap K V). int_eq k.epoch epoch) ks) (find (λ (k : KeptCounts). int_eq k.epoch epoch) list) (f (image_in kept epoch)) (alike ks list same epoch) (is epoch) ∙ sym (image_there f kept list epoch)
 
-module _ (t : Timelines) (list : List KeptCounts) (is : IsStore t list) where
-  brokers_there : (place : At) → entries_at t.brokers.maps place ≡ brokers_at (images_of t list) place
+module _ (t : Timelines) (list : List KeptCounts) (begun : Option ℤ) (is : IsStoreWith t list begun) where
+  brokers_there : (place : At) → entries_at t.brokers.maps place ≡ brokers_at (images_of t list begun) place
   brokers_there places.Tip = refl
-  brokers_there (places.Epoch epoch) = kept_there (λ (i : Image). i.brokers) (keeps_of t) t.brokers.maps.kept list is.kept.epochs.brokers (λ x. refl) epoch
+  brokers_there (places.Epoch epoch) = kept_there (λ (i : Image). i.brokers) (keeps_of t) t.brokers.maps.kept list is.store.kept.epochs.brokers (λ x. refl) epoch
 
-  names_there : (place : At) → entries_at t.names.maps place ≡ topics_at (images_of t list) place
+  names_there : (place : At) → entries_at t.names.maps place ≡ topics_at (images_of t list begun) place
   names_there places.Tip = refl
-  names_there (places.Epoch epoch) = kept_there (λ (i : Image). i.topics) (keeps_of t) t.names.maps.kept list is.kept.epochs.names (λ x. refl) epoch
+  names_there (places.Epoch epoch) = kept_there (λ (i : Image). i.topics) (keeps_of t) t.names.maps.kept list is.store.kept.epochs.names (λ x. refl) epoch
 
-  partitions_there : (place : At) → entries_at t.partitions.maps place ≡ partitions_at (images_of t list) place
+  partitions_there : (place : At) → entries_at t.partitions.maps place ≡ partitions_at (images_of t list begun) place
   partitions_there places.Tip = refl
-  partitions_there (places.Epoch epoch) = kept_there (λ (i : Image). i.partitions) (keeps_of t) t.partitions.maps.kept list is.kept.epochs.partitions (λ x. refl) epoch
+  partitions_there (places.Epoch epoch) = kept_there (λ (i : Image). i.partitions) (keeps_of t) t.partitions.maps.kept list is.store.kept.epochs.partitions (λ x. refl) epoch
 
-  configs_there : (place : At) → entries_at t.configs.maps place ≡ configs_at (images_of t list) place
+  configs_there : (place : At) → entries_at t.configs.maps place ≡ configs_at (images_of t list begun) place
   configs_there places.Tip = refl
-  configs_there (places.Epoch epoch) = kept_there (λ (i : Image). i.configs) (keeps_of t) t.configs.maps.kept list is.kept.epochs.configs (λ x. refl) epoch
+  configs_there (places.Epoch epoch) = kept_there (λ (i : Image). i.configs) (keeps_of t) t.configs.maps.kept list is.store.kept.epochs.configs (λ x. refl) epoch
 
-  features_there : (place : At) → entries_at t.features.maps place ≡ features_at (images_of t list) place
+  features_there : (place : At) → entries_at t.features.maps place ≡ features_at (images_of t list begun) place
   features_there places.Tip = refl
-  features_there (places.Epoch epoch) = kept_there (λ (i : Image). i.features) (keeps_of t) t.features.maps.kept list is.kept.epochs.features (λ x. refl) epoch
+  features_there (places.Epoch epoch) = kept_there (λ (i : Image). i.features) (keeps_of t) t.features.maps.kept list is.store.kept.epochs.features (λ x. refl) epoch
 
 -- ---- what a contract sees
 
-module _ (t : Timelines) (list : List KeptCounts) (is : IsStore t list) (seen : Images) (same : images_of t list ≡ seen) (place : At) where
+module _ (t : Timelines) (list : List KeptCounts) (begun : Option ℤ) (is : IsStoreWith t list begun) (seen : Images) (same : images_of t list begun ≡ seen) (place : At) where
   pub brokers_seen : entries_at t.brokers.maps place ≡ brokers_at seen place
-  brokers_seen = brokers_there t list is place ∙ ap (λ (i : Images). brokers_at i place) same
+  brokers_seen = brokers_there t list begun is place ∙ ap (λ (i : Images). brokers_at i place) same
 
   pub names_seen : entries_at t.names.maps place ≡ topics_at seen place
-  names_seen = names_there t list is place ∙ ap (λ (i : Images). topics_at i place) same
+  names_seen = names_there t list begun is place ∙ ap (λ (i : Images). topics_at i place) same
 
   pub partitions_seen : entries_at t.partitions.maps place ≡ partitions_at seen place
-  partitions_seen = partitions_there t list is place ∙ ap (λ (i : Images). partitions_at i place) same
+  partitions_seen = partitions_there t list begun is place ∙ ap (λ (i : Images). partitions_at i place) same
 
   pub configs_seen : entries_at t.configs.maps place ≡ configs_at seen place
-  configs_seen = configs_there t list is place ∙ ap (λ (i : Images). configs_at i place) same
+  configs_seen = configs_there t list begun is place ∙ ap (λ (i : Images). configs_at i place) same
 
   pub features_seen : entries_at t.features.maps place ≡ features_at seen place
-  features_seen = features_there t list is place ∙ ap (λ (i : Images). features_at i place) same
+  features_seen = features_there t list begun is place ∙ ap (λ (i : Images). features_at i place) same
 
 -- ---- the topics by id
 
@@ -93,26 +93,26 @@ Indexed None (Some topics) = ⊥
 Indexed (Some names) None = ⊥
 Indexed (Some names) (Some topics) = IsIndex names topics × (are_distinct (values_of names) ≡ true)
 
-index_there : (t : Timelines) (list : List KeptCounts) → IsStore t list → (place : At) → Indexed (topics_at (images_of t list) place) (entries_at t.topics.maps place)
-index_there t list is places.Tip = (is.present.index, is.valid.topics.distinct)
-index_there t list is (places.Epoch epoch) =
+index_there : (t : Timelines) (list : List KeptCounts) (begun : Option ℤ) → IsStoreWith t list begun → (place : At) → Indexed (topics_at (images_of t list begun) place) (entries_at t.topics.maps place)
+index_there t list begun is places.Tip = (is.store.present.index, is.store.valid.topics.distinct)
+index_there t list begun is (places.Epoch epoch) =
     let by_id : kept_in t.topics.maps.kept epoch ≡ option_map (λ (k : KeptCounts). map_in t.topics.maps.kept epoch) (find (λ (k : KeptCounts). int_eq k.epoch epoch) list) =
     alike_cases (find (λ (k : KeptMap ℕ Topic). int_eq k.epoch epoch) t.topics.maps.kept) (find (λ (k : KeptCounts). int_eq k.epoch epoch) list) (map_in t.topics.maps.kept epoch)
-    (alike t.topics.maps.kept list is.kept.epochs.topics epoch) refl in
+    (alike t.topics.maps.kept list is.store.kept.epochs.topics epoch) refl in
     let by_name = image_there (λ (i : Image). i.topics) (keeps_of t) list epoch in
-    subst (λ (o : Option (List (ℕ × Topic))). Indexed (topics_at (images_of t list) (places.Epoch epoch)) o) (sym by_id)
+    subst (λ (o : Option (List (ℕ × Topic))). Indexed (topics_at (images_of t list begun) (places.Epoch epoch)) o) (sym by_id)
     (subst (λ (o : Option (List (List ℕ × ℕ))). Indexed o (option_map (λ (k : KeptCounts). map_in t.topics.maps.kept epoch) (find (λ (k : KeptCounts). int_eq k.epoch epoch) list))) (sym by_name)
     (elim (find (λ (k : KeptCounts). int_eq k.epoch epoch) list) as (λ o. find (λ (k : KeptCounts). int_eq k.epoch epoch) list ≡ o → Indexed (option_map (λ (k : KeptCounts). map_in t.names.maps.kept epoch) o) (option_map (λ (k : KeptCounts). map_in t.topics.maps.kept epoch) o)) [
       | None ↦ λ none. tt
       | Some k ↦ λ found.
-          let right : IsCountedRight (keeps_of t) k = found_has (IsCountedRight (keeps_of t)) (λ (k : KeptCounts). int_eq k.epoch epoch) list k (recursion_from_All (IsCountedRight (keeps_of t)) list is.kept.right) found in
-          let valid : IsValid (image_in (keeps_of t) k.epoch) = found_has (λ (k : KeptCounts). IsValid (image_in (keeps_of t) k.epoch)) (λ (k : KeptCounts). int_eq k.epoch epoch) list k (all_map (λ (k : KeptCounts). (k.epoch, image_in (keeps_of t) k.epoch)) (λ (e : ℤ × Image). IsValid e.1) list (recursion_from_All (λ (e : ℤ × Image). IsValid e.1) (images_in (keeps_of t) list) is.kept.valid)) found in
+          let right : IsCountedRight (keeps_of t) k = found_has (IsCountedRight (keeps_of t)) (λ (k : KeptCounts). int_eq k.epoch epoch) list k (recursion_from_All (IsCountedRight (keeps_of t)) list is.store.kept.right) found in
+          let valid : IsValid (image_in (keeps_of t) k.epoch) = found_has (λ (k : KeptCounts). IsValid (image_in (keeps_of t) k.epoch)) (λ (k : KeptCounts). int_eq k.epoch epoch) list k (all_map (λ (k : KeptCounts). (k.epoch, image_in (keeps_of t) k.epoch)) (λ (e : ℤ × Image). IsValid e.1) list (recursion_from_All (λ (e : ℤ × Image). IsValid e.1) (images_in (keeps_of t) list) is.store.kept.valid)) found in
           let same : k.epoch ≡ epoch = (Decides-int_eq k.epoch epoch).0 (found_passes (λ (k : KeptCounts). int_eq k.epoch epoch) list k found) in
           subst (λ (x : ℤ). IsIndex (map_in t.names.maps.kept x) (map_in t.topics.maps.kept x) × (are_distinct (values_of (map_in t.names.maps.kept x)) ≡ true)) same (right.index, valid.topics.distinct)
     ] refl))
 
-pub index_seen : (t : Timelines) (list : List KeptCounts) → IsStore t list → (seen : Images) → images_of t list ≡ seen → (place : At) → Indexed (topics_at seen place) (entries_at t.topics.maps place)
-index_seen t list is seen same place = subst (λ (i : Images). Indexed (topics_at i place) (entries_at t.topics.maps place)) same (index_there t list is place)
+pub index_seen : (t : Timelines) (list : List KeptCounts) (begun : Option ℤ) → IsStoreWith t list begun → (seen : Images) → images_of t list begun ≡ seen → (place : At) → Indexed (topics_at seen place) (entries_at t.topics.maps place)
+index_seen t list begun is seen same place = subst (λ (i : Images). Indexed (topics_at i place) (entries_at t.topics.maps place)) same (index_there t list begun is place)
 
 module _ (C : Option Topic → Type 0) (E : Type 0) where
   pub topic_there : (names : Option (List (List ℕ × ℕ))) (topics : Option (List (ℕ × Topic))) (id : ℕ) → Indexed names topics → MatchOption topics E (λ m. C (entries.get nat_cmp m id)) → MatchOption names E (λ m. C (option_map (λ n. topic_of n id) (topic_name m id)))

@@ -1,3 +1,4 @@
+pub mod Roles
 pub mod RecordAnswers
 pub mod TimelineMaps
 pub mod TopicKeys

@@ -1,6 +1,6 @@
-//! The counts of the kept epochs.
+//! What is kept of each epoch besides the maps: its counts, and where the transaction began that was open then.
 
-ghost use Rattle.std.specs.Prelude.{◌≡◌, ◌+◌, ◌-◌, false, filter, find, int_lt, length, map, not, slice_get};
+ghost use Rattle.std.specs.Prelude.{◌≡◌, ◌+◌, ◌-◌, None, false, filter, find, int_lt, length, map, not, slice_get};
 ghost use Rattle.std.specs.List.Sorted.{IsStrictlySortedBy};
 ghost use Rattle.std.specs.Option.{option_map, option_map_or};
 ghost use Rattle.std.specs.Ordering.{int_cmp, int_eq};
@@ -16,15 +16,18 @@ use std::sync::ledger::Ledger;
 pub(crate) struct KeptCounts {
     pub epoch: i64,
     pub counts: Counts,
+    /// The epoch at which the transaction began that was open then.
+    pub begun: Option<i64>,
 }
 
-/// The epoch with its counts.
-pub(crate) fn kept_under(epoch: &i64, counts: Counts) -> KeptCounts
-    ensures { result ≡ record { epoch = epoch.now; counts = counts } }
+/// The epoch with its counts and the open transaction.
+pub(crate) fn kept_under(epoch: &i64, counts: Counts, begun: &Option<i64>) -> KeptCounts
+    ensures { result ≡ record { epoch = epoch.now; counts = counts; begun = begun.now } }
 {
     KeptCounts {
         epoch: *epoch,
         counts,
+        begun: *begun,
     }
 }
 
@@ -36,6 +39,29 @@ pub(crate) fn counts_at(kept: &VecDeque<KeptCounts>, epoch: &i64) -> Option<Coun
     match kept.binary_search_by_key(epoch, |k| k.epoch) {
         Ok(place) => Some(kept[place].counts),
         Err(_) => None,
+    }
+}
+
+/// Where the transaction began that was open at the epoch.
+pub(crate) fn begun_at(kept: &VecDeque<KeptCounts>, epoch: &i64) -> Option<i64>
+    requires { IsStrictlySortedBy int_cmp (map (λ (k : AnyCounts). k.epoch) kept.now.items) }
+    ensures { result ≡ option_map_or (λ (k : AnyCounts). k.begun)
+        (find (λ (k : AnyCounts). int_eq k.epoch epoch.now) kept.now.items) None }
+{
+    match kept.binary_search_by_key(epoch, |k| k.epoch) {
+        Ok(place) => kept[place].begun,
+        Err(_) => None,
+    }
+}
+
+/// Whether it is the last epoch.
+pub(crate) fn is_last(kept: &VecDeque<KeptCounts>, epoch: &i64) -> bool
+    ensures { result ≡ option_map_or (λ (k : AnyCounts). int_eq k.epoch epoch.now)
+        (slice_get kept.now.items (length kept.now.items - 1)) false }
+{
+    match kept.back() {
+        Some(k) => k.epoch == *epoch,
+        None => false,
     }
 }
 

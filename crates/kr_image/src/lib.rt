@@ -6,15 +6,18 @@ mod brokers;
 mod entries;
 mod epochs;
 mod features;
+mod items;
 mod keeping;
 mod kept_counts;
 mod looking;
 mod partitions;
 mod registrations;
 mod settings;
+mod states;
 mod store;
 mod sums;
 mod timelines;
 mod topics;
+mod transactions;
 
 pub use store::ImageStore;

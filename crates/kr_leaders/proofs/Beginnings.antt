@@ -1,6 +1,6 @@
 -- A controller leads from the offset of an image that it loaded.
-use Rattle.std.proofs.Common.{◌≡◌, ◌∙◌, ℕ, ℤ, pos, negsuc, false, cond, not, ◌||◌, ◌+◌, ◌≤ℤ◌, List, [], ◌∷◌, refl, ap, sym, subst, arith}
-use Rattle.std.specs.Prelude.{Some, None, Result, Ok, Err, int_lt}
+use Rattle.std.proofs.Common.{◌≡◌, ◌∙◌, ℕ, ℤ, pos, negsuc, Bool, true, false, cond, not, ◌||◌, ◌+◌, ◌≤ℤ◌, List, [], ◌∷◌, refl, ap, sym, subst, arith}
+use Rattle.std.specs.Prelude.{Option, Some, None, Result, Ok, Err, int_lt, is_some}
 use Rattle.std.specs.Ordering.{int_eq}
 use Rattle.std.specs.Result.{result_unwrap_or}
 use Rattle.kr_calls.specs.declared.events.Event.{Event}
@@ -19,12 +19,16 @@ use Rattle.kr_snapshot.specs.Reading.{image_of}
 use Rattle.kr_model.specs.declared.writes.Write.{Write}
 use Rattle.kr_model.specs.Engine.{Core, IsEngine}
 use Rattle.kr_model.specs.Events.{at_time_of, happens, outcome, with_next_number}
-use Rattle.kr_model.specs.Lead.{after_lead}
+use Rattle.kr_model.specs.Lead.{after_lead, giving_up}
 use Rattle.kr_model.specs.Load.{after_load, image_or, take_image}
 use Rattle.kr_model.specs.Outputs.{waiting_after}
 use Rattle.kr_model.specs.Reasons.{bad_next, exhausted, older_image}
-use Rattle.kr_model.specs.World.{State, World, image_of_tip, is_far, start, with_batch, with_heartbeats}
-use Rattle.kr_model.proofs.Logs.{at_tip}
+use Rattle.kr_model.specs.World.{State, World, image_of_tip, is_far, seen_at, start, tip_of, with_batch, with_heartbeats, with_records}
+use Rattle.kr_defs.specs.Log.{tip}
+use Rattle.kr_defs.specs.LogStates.{closed}
+use Rattle.kr_defs.specs.declared.record.Record.TheVariants as kinds
+use Rattle.kr_defs.proofs.StateLogs.{state_at_tip}
+use Rattle.kr_model.proofs.Logs.{image_there, none_open_at_start}
 use Rattle.kr_model.proofs.Places.{isnt_below}
 use Rattle.kr_leaders.specs.Balance as balance
 use Rattle.kr_leaders.specs.inner.Engines.{LeadsOn, IsAfterEvent, leader}
@@ -32,7 +36,7 @@ use Rattle.kr_leaders.specs.inner.Engines.{LeadsOn, IsAfterEvent, leader}
 -- on standby, with this image alone
 abbrev loaded : ℕ → Image → State
 loaded n image = record {
-  world = record { log = record { offset = n; image = image; items = [] }; committed = n; batch_ends = []; leading = None; greatest = negsuc 0; count = 1 };
+  world = record { log = record { offset = n; image = image; items = [] }; committed = n; covered = []; batch_ends = []; leading = None; greatest = negsuc 0; count = 1 };
   basis = start.basis;
 }
 
@@ -59,7 +63,14 @@ module _ (n : ℕ) (image : Image) (near : is_far (pos n) ≡ false) where
   lead = events.Lead (pos 1) (pos n) (pos 0)
 
   image_is : image_of_tip s ≡ image
-  image_is = ap (λ (r : Result Image Ill). result_unwrap_or r empty) (at_tip s.world.log)
+  image_is = ap (λ (r : Result Image Ill). result_unwrap_or r empty) (image_there s.world.log (tip_of s) (closed image) (state_at_tip s.world.log))
+
+  -- where it leads at the end of the log, nothing is open
+  abbrev led_by : Bool → World
+  led_by b = record (cond b s.world (with_batch s.world (items.Control ∷ []))) { leading = Some (pos 1); greatest = pos 1 }
+
+  none_given_up : with_records (led_by true) (giving_up (led_by true)) ≡ led_by true
+  none_given_up = ap (λ (o : Option ℕ). with_records (led_by true) (cond (is_some o) (kinds.AbortTransaction None ∷ []) [])) (none_open_at_start n image (tip_of s))
 
   abbrev led_on : World → Image → State
   led_on w seen = record {
@@ -72,10 +83,16 @@ module _ (n : ℕ) (image : Image) (near : is_far (pos n) ≡ false) where
       ap (λ b. let r : Result State Reason = cond (not (b || int_eq (pos n) (pos (n + 1)))) (Err (bad_next (pos n) (pos n))) (cond (is_far (pos n)) (Err (exhausted (pos n))) (Ok (after_lead s (pos 1) (pos n)))) in r) (id_itself (pos n))
       ∙ ap (λ b. let r : Result State Reason = cond b (Err (exhausted (pos n))) (Ok (after_lead s (pos 1) (pos n))) in r) near
 
+  abbrev led_then : World → State
+  led_then w = record {
+    world = w;
+    basis = record (with_heartbeats start.basis (begin (unfenced (seen_at w.log (tip w.log))) (stopping (seen_at w.log (tip w.log))) (pos 0) (pos n))) { led = pos n };
+  }
+
   led_so : after_lead s (pos 1) (pos n) ≡ led_on s.world image
   led_so =
-      ap (λ b. led_on (cond b s.world (with_batch s.world (items.Control ∷ []))) (image_of_tip s)) (id_itself (pos n))
-      ∙ ap (led_on s.world) image_is
+      ap (λ b. led_then (with_records (led_by b) (giving_up (led_by b)))) (id_itself (pos n))
+      ∙ (ap led_then none_given_up ∙ ap (led_on s.world) image_is)
 
   led_is : happens balance.balance_options s lead ≡ leader (pos n) image
   led_is =

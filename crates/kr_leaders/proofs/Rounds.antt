@@ -2,7 +2,7 @@
 use Rattle.std.proofs.Common.{◌≡◌, ◌∙◌, ℕ, ℤ, pos, negsuc, Bool, true, false, cond, not, ◌||◌, ◌+◌, ◌≤ℤ◌, List, [], ◌∷◌, ◌++◌, length, refl, ap, sym, subst, arith}
 use Rattle.std.proofs.lemmas.Int.{ints}
 use Rattle.std.proofs.lemmas.List.{length-map}
-use Rattle.std.specs.Prelude.{Option, Some, Result, Ok, Err, IfOk, IsSome, IsTrue, ◌+ℤ◌}
+use Rattle.std.specs.Prelude.{Option, Some, Result, Ok, Err, IfOk, IsSome, IsTrue, unwrap_or, ◌+ℤ◌}
 use Rattle.std.specs.Ordering.{int_eq}
 use Rattle.std.specs.Result.{result_unwrap_or}
 use Rattle.kr_calls.specs.declared.calls.Request.{Request}
@@ -22,7 +22,7 @@ use Rattle.kr_defs.specs.declared.record.Record.{Record}
 use Rattle.kr_defs.specs.Heartbeats.{heard}
 use Rattle.kr_defs.specs.Image.{Image, empty}
 use Rattle.kr_defs.specs.ImageLaws.{as_items}
-use Rattle.kr_defs.specs.Log.{Log, apply_all, tip}
+use Rattle.kr_defs.specs.Log.{Log, apply_all, image_at, tip}
 use Rattle.kr_defs.proofs.IdLists.{id_itself}
 use Rattle.kr_store.specs.Images.{kept_at}
 use Rattle.kr_model.specs.declared.writes.Write.{Write}
@@ -32,11 +32,13 @@ use Rattle.kr_model.specs.Events.{at_time_of, happens, outcome, with_next_number
 use Rattle.kr_model.specs.Outputs.{waiting_after}
 use Rattle.kr_model.specs.Reasons.{bad_commit, exhausted, not_leading}
 use Rattle.kr_model.specs.Request.{after_write, decision}
-use Rattle.kr_model.specs.World.{State, World, image_of_end, image_of_tip, is_far, leads_in, log_with, seen_at, tip_of, with_batch, with_heartbeats}
+use Rattle.kr_model.specs.World.{State, World, closed_of, image_of_tip, is_far, leads_in, log_with, seen_at, tip_of, with_batch, with_heartbeats}
 use Rattle.kr_model.proofs.LogEntries.{batch_written, not_none}
-use Rattle.kr_model.proofs.Logs.{as_records, at_tip, tip_written, written_at_tip}
+use Rattle.kr_defs.specs.LogStates.{closed}
+use Rattle.kr_defs.proofs.StateLogs.{state_at_tip}
+use Rattle.kr_model.proofs.Logs.{as_records, image_there as image_of_state, tip_written, written_at_tip}
 use Rattle.kr_model.proofs.Queues.{drained}
-use Rattle.kr_engine.proofs.ImageSteps.{committed_found}
+use Rattle.kr_engine.proofs.ImageSteps.{closed_found}
 use Rattle.kr_balance.specs.Plan.{plan}
 use Rattle.kr_rebalance.specs.Round.{round_event}
 use Rattle.law_balance.specs.Election.{preferred_election}
@@ -64,6 +66,9 @@ module _ (n : ℕ) (image : Image) (basis : Basis) where
 
   first_tip : tip begun.log ≡ n
   first_tip = omega arith
+
+  begun_image : image_at begun.log (tip begun.log) ≡ Ok image
+  begun_image = image_of_state begun.log (tip begun.log) (closed image) (state_at_tip begun.log)
 
   leads_still : (own : List Item) → (with_items own).world.leading ≡ Some (pos 1)
   leads_still [] = refl
@@ -105,13 +110,11 @@ module _ (n : ℕ) (image : Image) (basis : Basis) where
     end_is : end ≡ n + length own
     end_is = ap tip log_is ∙ (tip_written begun.log own ∙ ap (λ m. m + length own) first_tip)
 
-    image_there : (after : Image) (records : List Record) → own ≡ as_items records → apply_records image records ≡ Ok after → image_of_end last ≡ after
+    image_there : (after : Image) (records : List Record) → own ≡ as_items records → apply_records image records ≡ Ok after → seen_at last.world.log (tip_of last) ≡ after
     image_there after records are means =
         ap (λ (log : Log). seen_at log (tip log)) log_is
         ∙ ap (λ (r : Result Image Ill). result_unwrap_or r empty)
-        (written_at_tip begun.log own image (at_tip begun.log)
-        ∙ (ap (λ (xs : List Item). apply_all image xs) are
-        ∙ (as_records image records ∙ means)))
+        (written_at_tip begun.log own image after begun_image (ap (λ (xs : List Item). apply_all image xs) are ∙ (as_records image records ∙ means)))
 
 -- ---- the round
 
@@ -129,7 +132,7 @@ module _ (n : ℕ) (image : Image) (percent : ℕ) (near : is_far (pos n) ≡ fa
   decided = balance.round percent (pos n) image
 
   image_is : image_of_tip begins ≡ image
-  image_is = ap (λ (r : Result Image Ill). result_unwrap_or r empty) (at_tip begins.world.log)
+  image_is = ap (λ (r : Result Image Ill). result_unwrap_or r empty) (image_of_state begins.world.log (tip_of begins) (closed image) (state_at_tip begins.world.log))
 
   tip_is : tip_of begins ≡ n
   tip_is = omega arith
@@ -170,7 +173,7 @@ module _ (n : ℕ) (image : Image) (percent : ℕ) (before rounded drained_then 
   last_state = last n image basis_behind (as_items d.records)
 
   tip_image : before.images.tip ≡ image
-  tip_image = ap (λ (r : Result Image Ill). result_unwrap_or r empty) (sym l.stands.present ∙ at_tip led.world.log)
+  tip_image = ap (λ (r : Result Image Ill). result_unwrap_or r empty) (sym l.stands.present ∙ image_of_state led.world.log (tip_of led) (closed image) (state_at_tip led.world.log))
 
   module _ (meanings : RecordsHaveMeanings) (step : IsStep before rounded (event_of before.images.tip)) (handed : engines.IsDrained rounded drained_then) (took : IsAfterEvent drained_then after (events.Commit (pos 1) drained_then.tip)) where
     abbrev waiting : List Write
@@ -199,19 +202,23 @@ module _ (n : ℕ) (image : Image) (percent : ℕ) (before rounded drained_then 
     count_is : length (as_items d.records) ≡ length d.records
     count_is = length-map d.records (λ (r : Record). items.Record r)
 
-    place_is : after.committed ≡ pos n +ℤ pos (length d.records)
-    place_is = settled.committed ∙ ap (λ (m : ℕ). pos m) (end_is n image basis_behind (as_items d.records) ∙ ap (λ m. n + m) count_is)
+    -- nothing is open at its committed end, which is its tip
+    closed_there : closed_of last_state.world ≡ tip_of last_state
+    closed_there = ap (λ (o : Option ℕ). unwrap_or o (tip_of last_state)) (settled.is_state.decided (subst (λ (l : Option ℤ). IsSome l) (sym (leads_still n image basis_behind (as_items d.records))) refl))
+
+    place_is : after.closed ≡ pos n +ℤ pos (length d.records)
+    place_is = settled.closed ∙ ap pos closed_there ∙ ap (λ (m : ℕ). pos m) (end_is n image basis_behind (as_items d.records) ∙ ap (λ m. n + m) count_is)
 
     means : apply_records image d.records ≡ Ok d.image
     means = meanings balance.balance_options (balance.first_basis (pos n) image).time (heard (balance.first_basis (pos n) image)) image (pos n) (request n image percent l.near)
 
     commits_natural : Commits after (pos n +ℤ pos (length d.records)) d.image
     commits_natural = record {
-      committed = place_is;
+      closed = place_is;
       kept =
           ap (kept_at after.images) (sym place_is)
-          ∙ (committed_found after (drained after took.idle.drained) last_state waiting_then settled
-          ∙ ap (λ (i : Image). Some i) (image_there n image basis_behind (as_items d.records) d.image d.records refl means));
+          ∙ (closed_found after (drained after took.idle.drained) last_state waiting_then settled
+          ∙ ap (λ (i : Image). Some i) (ap (seen_at last_state.world.log) closed_there ∙ image_there n image basis_behind (as_items d.records) d.image d.records refl means));
     }
 
 pub commits : (before rounded drained_then after : Core) (percent : ℕ) (offset : ℤ) (image : Image) → RecordsHaveMeanings → LeadsOn before offset image → IsStep before rounded (round_event 0 (pos 0) before.images.tip percent)
@@ -233,8 +240,8 @@ is_near e (negsuc n) image l = absurd (let natural = l.natural in omega (arith, 
 
 -- ---- what is written
 
-pub natural_end : (e : Core) → IsSound e → pos 0 ≤ℤ e.committed
-natural_end e sound = subst (λ (p : ℤ). pos 0 ≤ℤ p) (sym sound.stands.committed) (omega (arith, ints))
+pub natural_end : (e : Core) → IsSound e → pos 0 ≤ℤ e.closed
+natural_end e sound = subst (λ (p : ℤ). pos 0 ≤ℤ p) (sym sound.stands.closed) (omega (arith, ints))
 
 pub if_ok_weaker : {T E : Type 0} {P Q : T → Type 0} (r : Result T E) → ((x : T) → P x → Q x) → IfOk r P → IfOk r Q
 if_ok_weaker (Ok x) more is = more x is

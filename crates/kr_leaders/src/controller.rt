@@ -104,13 +104,13 @@ fn rebalance<L: Ledger>(
     take(engine, &commit, steps)
 }
 
-// The bytes of the image at the committed end.
+// The bytes of the image at the closed end, which is the committed one: no transaction is open.
 fn committed_text(alloc: Global, engine: &Engine) -> Result<Vec<u8>, NoMemory>
     requires { IsSound engine.now }
     ensures { IfOk result (λ bytes. (end : ℤ) (image : Image) → Commits engine.now end image →
         bytes.items ≡ image_text end image) }
 {
-    let end = engine.committed();
+    let end = engine.closed();
     let mut bytes = Vec::new(alloc);
     match write(alloc, engine.store(), At::Epoch(end), end, &mut bytes) {
         Ok(()) => Ok(bytes),

@@ -51,7 +51,7 @@ module _ (options : Options) where
     writes = waiting_writes options past
 
     goes : Goes s.world (happens options s event).world
-    goes = event_goes options s event r.stands.is_state.ends
+    goes = event_goes options s event r.stands.is_state.started r.stands.is_state.ends
 
     same_state : state options (past ++ event ∷ []) ≡ happens options s event
     same_state = state_more options past event

@@ -17,7 +17,7 @@ use Rattle.kr_model.specs.declared.writes.Write.{Write}
 use Rattle.kr_model.specs.Engine.{Core, IsEngine, IsState}
 use Rattle.kr_model.specs.Events.{with_next_number, time_after, at_time_of, next_number}
 use Rattle.kr_model.specs.Outputs.{answers, answers_in, is_open, is_open_in}
-use Rattle.kr_model.specs.World.{State, World, tip_of}
+use Rattle.kr_model.specs.World.{State, World, closed_of, tip_of}
 use Rattle.kr_model.proofs.Queues.{IsDrained}
 
 -- ---- times
@@ -58,9 +58,12 @@ timed_state s writes event k =
     let never = never_earlier s.basis.time event in record {
       valid = k.valid;
       started = k.started;
+      settled = k.settled;
       ends = k.ends;
+      begun = k.begun;
       low = k.low;
       at_standby = k.at_standby;
+      decided = k.decided;
       hears = k.hears;
       in_time = later_too s.basis.contacts s.basis.time (time_after s.basis.time event) never k.in_time;
       natural = le_through (pos 0) s.basis.time (time_after s.basis.time event) k.natural never;
@@ -71,9 +74,12 @@ pub counted_state : (s : State) (writes : List Write) → IsState s writes → I
 counted_state s writes k = record {
   valid = k.valid;
   started = k.started;
+  settled = k.settled;
   ends = k.ends;
+  begun = k.begun;
   low = k.low;
   at_standby = k.at_standby;
+  decided = k.decided;
   hears = k.hears;
   in_time = k.in_time;
   natural = k.natural;
@@ -93,7 +99,7 @@ module _ (e : Core) (s : State) (writes : List Write) (d : IsDrained e) (k : IsE
   pub held_then : e.held ≡ writes ++ []
   held_then = held_wait ∙ sym (append-nil writes)
 
-  module _ (leading : Option ℤ) (end : ℤ) (w : World) (led : leading ≡ w.leading) (at : end ≡ pos w.committed) where
+  module _ (leading : Option ℤ) (end : ℤ) (w : World) (led : leading ≡ w.leading) (at : end ≡ pos (closed_of w)) where
     pub waits_then : filter (is_open leading end) e.held ≡ filter (is_open_in w) (writes ++ [])
     waits_then =
         ap (λ l. filter (is_open l end) e.held) led
@@ -118,6 +124,7 @@ module _ (e : Core) (event : Event) (outputs : List Output) (refusal : Option Ou
       let state = counted_state (at_time_of s event) writes (timed_state s writes event k.is_state) in record {
         tip = k.tip;
         committed = k.committed;
+        closed = k.closed;
         leading = k.leading;
         greatest = k.greatest;
         count = ap next_number k.count;
@@ -126,15 +133,20 @@ module _ (e : Core) (event : Event) (outputs : List Output) (refusal : Option Ou
         heard_of = k.heard_of;
         present = k.present;
         kept = k.kept;
+        begun = k.begun;
+        kept_begun = k.kept_begun;
         weighed = k.weighed;
-        waits = waits_then e s writes d k e.leading e.committed s.world k.leading k.committed;
+        waits = waits_then e s writes d k e.leading e.closed s.world k.leading k.closed;
         ordered = k.ordered;
         is_state = record {
           valid = state.valid;
           started = state.started;
+          settled = state.settled;
           ends = state.ends;
+          begun = state.begun;
           low = state.low;
           at_standby = state.at_standby;
+          decided = state.decided;
           hears = state.hears;
           in_time = state.in_time;
           natural = state.natural;

@@ -1,5 +1,5 @@
 -- The abstract controller computed on small logs.
-use Rattle.std.specs.Prelude.{◌≡◌, ℕ, ℤ, pos, false, List, [], ◌∷◌, Some, Ok, Err, codes}
+use Rattle.std.specs.Prelude.{◌≡◌, ℕ, ℤ, pos, false, List, [], ◌∷◌, None, Some, Ok, Err, codes}
 use Rattle.std.proofs.Common.{refl, ap}
 use Rattle.kr_calls.specs.declared.errors.TheConstants.{INVALID_REQUEST, NOT_CONTROLLER, UNSUPPORTED_VERSION}
 use Rattle.kr_calls.specs.declared.calls.Reply.{Reply}
@@ -24,11 +24,12 @@ use Rattle.kr_defs.specs.declared.options.Options.{Options}
 use Rattle.kr_defs.specs.declared.record.Item.TheVariants as items
 use Rattle.kr_defs.specs.declared.record.Record.{Record}
 use Rattle.kr_defs.specs.declared.record.Record.TheVariants as kinds
-use Rattle.kr_defs.specs.declared.ill.Ill.TheVariants.{NoTopic}
+use Rattle.kr_defs.specs.declared.ill.Ill.TheVariants.{BadTransaction, NoTopic}
 use Rattle.kr_defs.specs.Apply.{apply, apply_record}
 use Rattle.kr_defs.specs.Guard.{and_then}
 use Rattle.kr_defs.specs.Image.{empty}
-use Rattle.kr_defs.specs.Log.{image_at}
+use Rattle.kr_defs.specs.Log.{image_at, open_at, state_at}
+use Rattle.kr_defs.specs.LogStates.{apply_at}
 use Rattle.kr_defs.specs.Sizes.{value_bytes}
 use Rattle.kr_batch.specs.declared.Batch.{Batch}
 use Rattle.kr_batch.specs.declared.fault.BatchFault.{BatchFault}
@@ -45,7 +46,8 @@ use Rattle.kr_model.specs.Reasons.{already_leading, bad_batch, bad_commit, bad_n
 use Rattle.kr_model.specs.Batch.{batch_or, batch, take_batch, after_batch}
 use Rattle.kr_model.specs.Load.{take_image, after_load}
 use Rattle.kr_model.specs.Tick.{lapsed_contacts}
-use Rattle.kr_model.specs.World.{State, image_of_tip, start, tip_of}
+use Rattle.kr_model.specs.World.{State, closed_of, image_of_tip, start, tip_of}
+use Rattle.kr_snapshot.specs.ImageText.{image_text}
 
 -- ---- a leader of epoch 1 at place 12, where all is committed
 
@@ -60,7 +62,7 @@ basis = record { time = pos 2000; led = pos 0; contacts = contact (pos 1) ∷ co
 
 abbrev led : State
 led = record {
-  world = record { log = record { offset = 12; image = empty; items = [] }; committed = 12; batch_ends = []; leading = Some (pos 1); greatest = pos 1; count = 12 };
+  world = record { log = record { offset = 12; image = empty; items = [] }; committed = 12; covered = []; batch_ends = []; leading = Some (pos 1); greatest = pos 1; count = 12 };
   basis = basis;
 }
 
@@ -108,16 +110,16 @@ commit_to end = events.Commit (pos 1) (pos end)
 pub commits :
     outputs_from led [] (asked (pos 1) ∷ commit_to 12 ∷ commit_to 15 ∷ [])
     ≡ (given.Append (batch_bytes settings_batch) ∷ []) ∷ [] ∷ (replied (pos 1) (pos 0) ∷ []) ∷ []
-unfolding work_of incremental_alter_configs.decided done taken apply_record apply image_at value_bytes heartbeats_after refusals.refuse
+unfolding work_of incremental_alter_configs.decided done taken apply_record apply image_at state_at apply_at open_at value_bytes heartbeats_after refusals.refuse
 commits = refl
 
 -- a commit ends with a batch, and not above the tip
 pub commit_above : outcome options (after led (asked (pos 1) ∷ [])) (commit_to 16) ≡ Err (bad_commit (pos 16) (pos 12) (pos 15))
-unfolding work_of incremental_alter_configs.decided done taken apply_record apply image_at value_bytes
+unfolding work_of incremental_alter_configs.decided done taken apply_record apply image_at state_at apply_at open_at value_bytes
 commit_above = refl
 
 pub commit_between : outcome options (after led (asked (pos 1) ∷ [])) (commit_to 14) ≡ Err (bad_commit (pos 14) (pos 12) (pos 15))
-unfolding work_of incremental_alter_configs.decided done taken apply_record apply image_at value_bytes
+unfolding work_of incremental_alter_configs.decided done taken apply_record apply image_at state_at apply_at open_at value_bytes
 commit_between = refl
 
 pub commit_of_another : outcome options led (events.Commit (pos 2) (pos 12)) ≡ Err (not_leading (pos 2) (Some (pos 1)))
@@ -127,7 +129,7 @@ commit_of_another = refl
 pub without_records :
     outputs_from led [] (asked (pos 1) ∷ asked (pos 2) ∷ commit_to 15 ∷ asked (pos 3) ∷ [])
     ≡ (given.Append (batch_bytes settings_batch) ∷ []) ∷ [] ∷ (replied (pos 1) (pos 0) ∷ replied (pos 2) (pos 0) ∷ []) ∷ (replied (pos 3) (pos 0) ∷ []) ∷ []
-unfolding work_of incremental_alter_configs.decided done taken apply_record apply image_at value_bytes heartbeats_after refusals.refuse
+unfolding work_of incremental_alter_configs.decided done taken apply_record apply image_at state_at apply_at open_at value_bytes heartbeats_after refusals.refuse
 without_records = refl
 
 -- ---- leaderships
@@ -142,12 +144,12 @@ standby = after led (lost_lead ∷ [])
 pub leadership_lost :
     outputs_from led [] (asked (pos 1) ∷ asked (pos 2) ∷ lost_lead ∷ [])
     ≡ (given.Append (batch_bytes settings_batch) ∷ []) ∷ [] ∷ (replied (pos 1) NOT_CONTROLLER ∷ replied (pos 2) NOT_CONTROLLER ∷ []) ∷ []
-unfolding work_of incremental_alter_configs.decided done taken apply_record apply image_at value_bytes heartbeats_after refusals.refuse
+unfolding work_of incremental_alter_configs.decided done taken apply_record apply image_at state_at apply_at open_at value_bytes heartbeats_after refusals.refuse
 leadership_lost = refl
 
 -- and what wasn't committed is gone
 pub nothing_left : image_of_tip (after led (asked (pos 1) ∷ lost_lead ∷ [])) ≡ empty
-unfolding work_of incremental_alter_configs.decided done taken apply_record apply image_at value_bytes
+unfolding work_of incremental_alter_configs.decided done taken apply_record apply image_at state_at apply_at open_at value_bytes
 nothing_left = refl
 
 pub on_standby : outputs_of options start [] (asked (pos 7)) ≡ replied (pos 7) NOT_CONTROLLER ∷ []
@@ -171,16 +173,18 @@ pub led_above : lead standby (pos 2) (pos 13) ≡ Ok (after_lead standby (pos 2)
 led_above = refl
 
 pub led_behind : tip_of (after_lead standby (pos 2) (pos 13)) ≡ 13
+unfolding open_at
 led_behind = refl
 
 pub own_batch : (after_lead standby (pos 2) (pos 13)).world.batch_ends ≡ 13 ∷ []
+unfolding open_at
 own_batch = refl
 
 -- ---- batches of another leader
 
 -- the batch comes back: it is committed, and nobody is answered
 pub comes_back : (bytes : List ℕ) → batch_of bytes ≡ Ok settings_batch → outputs_of options (after led (asked (pos 1) ∷ lost_lead ∷ [])) [] (events.Batch bytes) ≡ []
-unfolding work_of incremental_alter_configs.decided done taken apply_record apply image_at value_bytes
+unfolding work_of incremental_alter_configs.decided done taken apply_record apply image_at state_at apply_at open_at value_bytes
 comes_back bytes is = ap (λ r. outputs_by options (after led (asked (pos 1) ∷ lost_lead ∷ [])) [] (events.Batch bytes) (and_then (batch_or r) (take_batch (after led (asked (pos 1) ∷ lost_lead ∷ []))))) is
 
 pub ends_behind : tip_of (after_batch standby settings_batch) ≡ 15
@@ -191,11 +195,11 @@ comes_twice = refl
 
 -- the quorum's own items take places and have no meaning
 pub control : take_batch start (record { base = pos 0; epoch = pos 3; time = pos 0; items = items.Control ∷ [] }) ≡ Ok (after_batch start (record { base = pos 0; epoch = pos 3; time = pos 0; items = items.Control ∷ [] }))
-unfolding apply image_at
+unfolding apply image_at state_at apply_at open_at
 control = refl
 
 pub ill : take_batch start (record settings_batch { base = pos 0; items = items.Control ∷ items.Record (kinds.RemoveTopic 5) ∷ [] }) ≡ Err (ill_formed (pos 1) NoTopic)
-unfolding apply apply_record image_at
+unfolding apply apply_record image_at state_at apply_at open_at
 ill = refl
 
 -- a batch is judged whole before its place
@@ -207,6 +211,108 @@ refused_by_crc = refl
 
 pub older : take_image standby (pos 11, empty) ≡ Err (older_image (pos 11) (pos 12))
 older = refl
+
+-- ---- transactions (KIP-868)
+
+abbrev first_batch : Batch
+first_batch = record { base = pos 0; epoch = pos 1; time = pos 0; items = items.Record (kinds.BeginTransaction None) ∷ items.Record (config (codes "a")) ∷ [] }
+
+-- another leader left a transaction open: nothing in it is seen
+abbrev half_open : State
+half_open = after_batch start first_batch
+
+pub opens : take_batch start first_batch ≡ Ok half_open
+unfolding apply apply_record image_at state_at apply_at open_at
+opens = refl
+
+pub closed_before : closed_of half_open.world ≡ 0
+unfolding open_at
+closed_before = refl
+
+pub shown_before : outputs_of options half_open [] events.Image ≡ given.Image (image_text (pos 0) empty) ∷ []
+unfolding apply apply_record image_at state_at apply_at open_at
+shown_before = refl
+
+-- a new leader gives it up, by a batch of its own
+abbrev leads_behind : Event
+leads_behind = events.Lead (pos 2) (pos 2) (pos 0)
+
+abbrev commits_to : ℕ → Event
+commits_to end = events.Commit (pos 2) (pos end)
+
+abbrev abort_batch : Batch
+abort_batch = record { base = pos 2; epoch = pos 2; time = pos 0; items = items.Record (kinds.AbortTransaction None) ∷ [] }
+
+pub given_up : outputs_of options half_open [] leads_behind ≡ given.Append (batch_bytes abort_batch) ∷ []
+unfolding apply apply_record image_at state_at apply_at open_at
+given_up = refl
+
+pub taken_back : image_of_tip (after half_open (leads_behind ∷ [])) ≡ empty
+unfolding apply apply_record image_at state_at apply_at open_at
+taken_back = refl
+
+-- a write is decided behind the abort, and answered once both are committed
+pub answered_behind :
+    outputs_from half_open [] (leads_behind ∷ asked (pos 1) ∷ commits_to 3 ∷ commits_to 6 ∷ [])
+    ≡ (given.Append (batch_bytes abort_batch) ∷ []) ∷ (given.Append (batch_bytes (record settings_batch { base = pos 3; epoch = pos 2 })) ∷ []) ∷ [] ∷ (replied (pos 1) (pos 0) ∷ []) ∷ []
+unfolding work_of incremental_alter_configs.decided done taken apply_record apply image_at state_at apply_at open_at value_bytes heartbeats_after refusals.refuse
+answered_behind = refl
+
+-- behind an item of the quorum's own: the commit of that item closes nothing, that of the abort does
+abbrev leads_above : Event
+leads_above = events.Lead (pos 2) (pos 3) (pos 0)
+
+pub still_open : closed_of (after half_open (leads_above ∷ commits_to 3 ∷ [])).world ≡ 0
+unfolding apply apply_record image_at state_at apply_at open_at
+still_open = refl
+
+pub closes : closed_of (after half_open (leads_above ∷ commits_to 3 ∷ commits_to 4 ∷ [])).world ≡ 4
+unfolding apply apply_record image_at state_at apply_at open_at
+closes = refl
+
+-- where the leadership is lost before, it is open again, and another leader may end it
+abbrev open_again : State
+open_again = after half_open (leads_above ∷ commits_to 3 ∷ events.Lost (pos 2) ∷ [])
+
+pub lost_inside : closed_of open_again.world ≡ 0
+unfolding apply apply_record image_at state_at apply_at open_at
+lost_inside = refl
+
+pub closed_later : closed_of (after_batch open_again (record { base = pos 3; epoch = pos 3; time = pos 0; items = items.Record kinds.EndTransaction ∷ [] })).world ≡ 4
+unfolding apply apply_record image_at state_at apply_at open_at
+closed_later = refl
+
+-- what it brought is seen then
+abbrev end_batch : Batch
+end_batch = record { base = pos 2; epoch = pos 3; time = pos 0; items = items.Record kinds.EndTransaction ∷ [] }
+
+pub shown_later : outputs_of options (after_batch (after half_open (leads_behind ∷ events.Lost (pos 2) ∷ [])) end_batch) [] events.Image
+    ≡ given.Image (image_text (pos 3) (record empty { configs = (record { kind = pos 4; name = []; key = codes "a" }, codes "1") ∷ [] })) ∷ []
+unfolding apply apply_record image_at state_at apply_at open_at value_bytes
+shown_later = refl
+
+-- the ends of batches that the transaction goes over are kept until it is closed
+pub covered_inside : half_open.world.covered ≡ 2 ∷ []
+unfolding open_at
+covered_inside = refl
+
+pub covered_then : (after_batch half_open end_batch).world.covered ≡ []
+unfolding open_at
+covered_then = refl
+
+-- an image in place of all closes it: then none ends
+pub loaded_inside : take_batch (after_load half_open 2 empty) end_batch ≡ Err (ill_formed (pos 2) BadTransaction)
+unfolding apply apply_record image_at state_at apply_at open_at
+loaded_inside = refl
+
+-- a second one can't begin inside, and none ends that hasn't begun
+pub second_begin : take_batch half_open (record { base = pos 2; epoch = pos 1; time = pos 0; items = items.Record (kinds.BeginTransaction None) ∷ [] }) ≡ Err (ill_formed (pos 2) BadTransaction)
+unfolding apply apply_record image_at state_at apply_at open_at
+second_begin = refl
+
+pub end_alone : take_batch start (record { base = pos 0; epoch = pos 1; time = pos 0; items = items.Record kinds.EndTransaction ∷ [] }) ≡ Err (ill_formed (pos 0) BadTransaction)
+unfolding apply apply_record image_at state_at apply_at open_at
+end_alone = refl
 
 -- ---- time
 

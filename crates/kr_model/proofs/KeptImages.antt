@@ -1,5 +1,5 @@
 -- The images that are kept under rising places.
-use Rattle.std.proofs.Common.{◌≡◌, ◌∙◌, sym, ℕ, ℤ, pos, true, false, cond, ◌≤◌, ◌-◌, List, [], ◌∷◌, take, drop, map, refl, ap, arith, suc, negsuc, length}
+use Rattle.std.proofs.Common.{◌≡◌, ◌∙◌, sym, ℕ, ℤ, pos, true, false, cond, ◌≤◌, ◌+◌, ◌-◌, List, [], ◌∷◌, ◌++◌, take, drop, map, refl, ap, subst, arith, suc, negsuc, length}
 use Rattle.std.proofs.lemmas.List.{take-append-drop}
 use Rattle.std.specs.Prelude.{Option, Some, None, Result, Ok, Err, not, filter, int_lt, IsTrue, slice_get}
 use Rattle.std.specs.Option.{option_map}
@@ -10,29 +10,57 @@ use Rattle.std.specs.List.{AllByRecursion}
 use Rattle.kr_defs.specs.declared.ill.Ill.{Ill}
 use Rattle.kr_defs.specs.Guard.{and_then}
 use Rattle.kr_defs.specs.Image.{Image, empty}
-use Rattle.kr_defs.specs.Log.{Log, apply_all, image_at, tip}
+use Rattle.kr_defs.specs.declared.record.Item.{Item}
+use Rattle.kr_defs.specs.Log.{Log, image_at, state_image, state_at, tip}
+use Rattle.kr_defs.specs.LogStates.{LogState, apply_all_at, closed}
+use Rattle.kr_defs.proofs.StateLogs.{apply_append as states_append, state_at_tip}
 use Rattle.kr_defs.proofs.IdLists.{id_itself}
 use Rattle.kr_model.specs.declared.writes.Write.{Write}
 use Rattle.kr_model.specs.Engine.{Rise, kept_image}
 use Rattle.kr_model.specs.Outputs.{is_open}
-use Rattle.kr_model.specs.World.{seen_at}
-use Rattle.kr_model.proofs.Logs.{apply_append, at_tip}
+use Rattle.kr_model.specs.World.{seen_at, seen_state}
 use Rattle.kr_model.proofs.Places.{is_below, isnt_below}
 
 -- ---- the image at the end
 
-seen_first : (r : Result Image Ill) (next : Image → Result Image Ill) (after : Image) → and_then r next ≡ Ok after → r ≡ Ok (result_unwrap_or r empty)
-seen_first (Ok image) next after is = refl
+seen_first : (r : Result LogState Ill) (next : LogState → Result LogState Ill) (after : Image) → state_image (and_then r next) ≡ Ok after → state_image r ≡ Ok (result_unwrap_or (state_image r) empty)
+seen_first (Ok state) next after is = refl
 seen_first (Err cause) next after is = absurd cc
 
--- each place below the tip has an image
-pub seen_below : (log : Log) (place : ℕ) (image : Image) → image_at log (tip log) ≡ Ok image → image_at log place ≡ Ok (seen_at log place)
+kept_first : (r : Result LogState Ill) (next : LogState → Result LogState Ill) (after : Image) → state_image (and_then r next) ≡ Ok after → r ≡ Ok (result_unwrap_or r (closed empty))
+kept_first (Ok state) next after is = refl
+kept_first (Err cause) next after is = absurd cc
+
+-- the items below a place and those behind it
+parted_at : (log : Log) (place : ℕ) → and_then (apply_all_at (closed log.image) log.offset (take (place - log.offset) log.items)) (λ (s : LogState). apply_all_at s (log.offset + length (take (place - log.offset) log.items)) (drop (place - log.offset) log.items)) ≡ state_at log (tip log)
+parted_at log place =
+    let n = place - log.offset in
+    sym (states_append (take n log.items) (drop n log.items) (closed log.image) log.offset)
+    ∙ (ap (λ (xs : List Item). apply_all_at (closed log.image) log.offset xs) (take-append-drop n log.items) ∙ sym (state_at_tip log))
+
+-- each place below the tip has a state
+pub state_below : (log : Log) (place : ℕ) (image : Image) → image_at log (tip log) ≡ Ok image → state_at log place ≡ Ok (seen_state log place)
+unfolding image_at state_at
+state_below log place image is =
+    let n = place - log.offset in
+    kept_first (apply_all_at (closed log.image) log.offset (take n log.items)) (λ (s : LogState). apply_all_at s (log.offset + length (take n log.items)) (drop n log.items)) image
+    (ap state_image (parted_at log place) ∙ is)
+
+image_in : (r : Result LogState Ill) → (result_unwrap_or r (closed empty)).image ≡ result_unwrap_or (state_image r) empty
+image_in (Ok state) = refl
+image_in (Err cause) = refl
+
+pub image_of_seen : (log : Log) (place : ℕ) → (seen_state log place).image ≡ seen_at log place
 unfolding image_at
+image_of_seen log place = image_in (state_at log place)
+
+-- and an image
+pub seen_below : (log : Log) (place : ℕ) (image : Image) → image_at log (tip log) ≡ Ok image → image_at log place ≡ Ok (seen_at log place)
+unfolding image_at state_at
 seen_below log place image is =
     let n = place - log.offset in
-    seen_first (apply_all log.image (take n log.items)) (λ i. apply_all i (drop n log.items)) image
-    (sym (apply_append (take n log.items) (drop n log.items) log.image)
-    ∙ (ap (apply_all log.image) (take-append-drop n log.items) ∙ (sym (at_tip log) ∙ is)))
+    seen_first (apply_all_at (closed log.image) log.offset (take n log.items)) (λ (s : LogState). apply_all_at s (log.offset + length (take n log.items)) (drop n log.items)) image
+    (ap state_image (parted_at log place) ∙ is)
 
 -- ---- what is kept
 
@@ -43,6 +71,11 @@ under place image = (pos place, image)
 pub not_higher : (from : ℕ) (ns : List ℕ) (to : ℕ) → Rise from ns to → from ≤ to
 not_higher from [] to rise = omega (arith, rise)
 not_higher from (n ∷ ns) to rise = let up = rise.0 in let rest = not_higher n ns to rise.1 in omega (arith, up, rest)
+
+-- one list behind the other
+pub rise_both : (from : ℕ) (xs : List ℕ) (mid : ℕ) (ys : List ℕ) (to : ℕ) → Rise from xs mid → Rise mid ys to → Rise from (xs ++ ys) to
+rise_both from [] mid ys to first second = subst (λ n. Rise n ys to) (sym first) second
+rise_both from (n ∷ xs) mid ys to first second = (first.0, rise_both n xs mid ys to first.1 second)
 
 none_left : (log : Log) (least from : ℕ) (ns : List ℕ) (to : ℕ) → least ≤ from → Rise from ns to
     → filter (λ (k : ℤ × Image). not (int_lt (pos least) k.0)) (map (kept_image log) ns) ≡ []

@@ -1,11 +1,13 @@
 pub mod AllEvents
 pub mod ContactTimes
+pub mod CoveredEnds
 pub mod DueWrites
 pub mod EventOutcomes
 pub mod EventsWithoutWrites
 mod Examples
 pub mod FencedBrokers
 pub mod KeptImages
+pub mod Leaderships
 pub mod LoadedImages
 pub mod LogEntries
 pub mod Logs
@@ -18,6 +20,7 @@ pub mod RightReplies
 pub mod SafeEntries
 pub mod SoundEngines
 pub mod StandingEngines
+pub mod TransactionWeights
 pub mod UnfencedBrokers
 pub mod WaitingWrites
 pub mod Weights

@@ -18,7 +18,7 @@ use Rattle.kr_defs.specs.Apply.{apply}
 
 pub control_at_tip : (log : Log) (image : Image) → image_at log (tip log) ≡ Ok image → image_at (log_with log (items.Control ∷ [])) (tip (log_with log (items.Control ∷ []))) ≡ Ok image
 unfolding apply
-control_at_tip log image is = written_at_tip log (items.Control ∷ []) image is
+control_at_tip log image is = written_at_tip log (items.Control ∷ []) image image is refl
 
 -- what is kept below the tip is seen as before
 pub kept_before : (log : Log) (items : List Item) (from : ℕ) (ns : List ℕ) → from ≤ tip log → Rise from ns (tip log) → map (kept_image (log_with log items)) (from ∷ ns) ≡ map (kept_image log) (from ∷ ns)
@@ -38,7 +38,7 @@ module _ (log : Log) (items : List Item) (before image : Image) (seen : image_at
   longer = log_with log items
 
   pub present_then : image_at longer (tip longer) ≡ Ok image
-  present_then = written_at_tip log items before seen ∙ means
+  present_then = written_at_tip log items before image seen means
 
   pub seen_then : seen_at longer (tip longer) ≡ image
   seen_then = ap (λ (r : Result Image Ill). result_unwrap_or r empty) present_then

@@ -3,7 +3,7 @@ use Rattle.std.proofs.Common.{◌≡◌, ◌∙◌, sym, subst, ℕ, ℤ, pos, B
 use Rattle.std.proofs.lemmas.Bool.Decides.{nat_tests}
 use Rattle.std.proofs.lemmas.Int.{ints, clamps}
 use Rattle.std.proofs.lemmas.List.{append_assoc, append-nil}
-use Rattle.std.specs.Prelude.{Option, Some, None, Result, Ok, Err, filter, int_lt, is_some, not, unsigned_abs, ◌&&◌, ◌==◌, ◌-ℤ◌, ◌≤ℤ◌, int_le, negsuc}
+use Rattle.std.specs.Prelude.{Option, Some, None, Result, Ok, Err, filter, int_lt, is_some, not, unsigned_abs, unwrap_or, ◌&&◌, ◌==◌, ◌-ℤ◌, ◌≤ℤ◌, int_le, negsuc}
 use Rattle.std.specs.Ordering.{int_eq}
 use Rattle.std.specs.Result.{result_unwrap_or}
 use Rattle.kr_batch.specs.declared.Batch.{Batch}
@@ -23,24 +23,26 @@ use Rattle.kr_defs.specs.Heartbeats as hearing
 use Rattle.kr_defs.specs.Heartbeats.{Heartbeats, expired}
 use Rattle.kr_defs.specs.Image.{Image}
 use Rattle.kr_defs.specs.ImageLaws.{as_items}
-use Rattle.kr_defs.specs.Log.{first_ill, tip}
+use Rattle.kr_defs.specs.Log.{closed_end_at, tip}
+use Rattle.kr_defs.specs.LogStates.{first_ill_at}
 use Rattle.kr_defs.proofs.HeartbeatLists.{le_through}
 use Rattle.kr_defs.proofs.Tests.{Gives, both, gives_done, gives_refuse, gives_then, none_is, not_false}
 use Rattle.kr_snapshot.specs.Reading.{image_of}
-use Rattle.kr_model.specs.Commit.{commit, after_commit, is_end}
+use Rattle.kr_model.specs.Commit.{commit, after_commit, ends_up_to, is_end}
 use Rattle.kr_model.specs.Engine.{Rise}
 use Rattle.kr_model.specs.Events.{with_next_number, happens, time_after, outcome, state, at_time_of}
-use Rattle.kr_model.specs.Lead.{after_lead, lead, may_begin_at, up_to}
+use Rattle.kr_model.specs.Lead.{after_lead, giving_up, in_lead, lead, may_begin_at, taking_over, up_to}
 use Rattle.kr_model.specs.Lost.{after_lost, lost}
-use Rattle.kr_model.specs.World.{leads_in, State, World, image_of_tip, is_far, start, tip_of, with_batch, log_with}
+use Rattle.kr_model.specs.World.{closed_of, leads_in, State, World, image_of_tip, is_far, start, state_of_tip, tip_of, with_batch, log_with}
 use Rattle.kr_model.specs.Outputs.{new_writes, waiting_writes, waiting_after, writes_from}
 use Rattle.kr_model.specs.Reasons as reasons
 use Rattle.kr_model.specs.Batch.{batch_or, end_of, batch, take_batch, after_batch, unless_ill}
 use Rattle.kr_model.specs.Load.{image_or, load, take_image, after_load}
 use Rattle.kr_model.specs.Request.{after_ask, after_write, decision, is_decided, request}
 use Rattle.kr_model.specs.Tick.{fence, fence_all, fencing_of, lapsed_contacts, tick}
-use Rattle.kr_model.proofs.DueWrites.{Goes, batch_leaves, event_goes}
-use Rattle.kr_model.proofs.Logs.{cut_tip, tip_written}
+use Rattle.kr_model.proofs.DueWrites.{Goes, batch_leaves, event_goes, lead_leading}
+use Rattle.kr_model.proofs.CoveredEnds.{AreCovered, covered_above, passed_up_to, up_to_both, up_to_later}
+use Rattle.kr_model.proofs.Logs.{cut_tip, open_cut_below, open_written_below, tip_written}
 use Rattle.kr_model.proofs.LongerLogs.{rise_more}
 use Rattle.kr_model.proofs.KeptImages.{not_higher}
 use Rattle.kr_model.proofs.Places.{moves}
@@ -64,9 +66,10 @@ through a b c h k = omega (arith, ints, h, k)
 
 -- ---- states
 
--- the ends of the batches rise from the committed end to the tip
+-- the ends of the batches rise from the committed end to the tip, and the covered ones stand above the closed end
 pub record Rises (w : World) : Type 0 where
   pub started : w.log.offset ≤ w.committed
+  pub covered : AreCovered (closed_of w) w.committed w.covered
   pub ends : Rise w.committed w.batch_ends (tip w.log)
 
 -- time begins at 0; on standby no batch stands above the committed end, and nobody is heard of
@@ -83,8 +86,11 @@ leads leading none some = let both : false ≡ true = sym (ap (λ (l : Option �
 module _ (w : World) (r : Rises w) where
   longer : (items : List Item) → (length items == 0) ≡ false → Rises (record w { log = log_with w.log items; batch_ends = w.batch_ends ++ (tip w.log + length items) ∷ [] })
   longer items some =
-      let n = tip w.log + length items in record {
+      let n = tip w.log + length items in
+      let same : closed_end_at (log_with w.log items) w.committed ≡ closed_of w =
+      ap (λ o. unwrap_or o w.committed) (open_written_below w.log items w.committed (not_higher w.committed w.batch_ends (tip w.log) r.ends)) in record {
         started = r.started;
+        covered = subst (λ c. AreCovered c w.committed w.covered) (sym same) r.covered;
         ends = subst (Rise w.committed (w.batch_ends ++ n ∷ [])) (sym (tip_written w.log items))
             (rise_more w.committed w.batch_ends (tip w.log) n r.ends (let many : 0 < length items = grind (arith, nat_tests) in omega (arith, many)));
       }
@@ -132,10 +138,12 @@ module _ (options : Options) (s : State) (k : IsOrderly s) where
       gives_refuse P (reasons.already_leading s.world.leading) (is_some s.world.leading) _ (λ _. gives_refuse P (reasons.old_epoch epoch s.world.greatest) (not (int_lt s.world.greatest epoch)) _ (λ _.
       gives_refuse P (reasons.bad_next next (pos s.world.committed)) (not (may_begin_at s.world next)) _ (λ _. gives_refuse P (reasons.exhausted next) (is_far next) _ (λ _.
       let u : Rises (up_to s.world next) = rises_up_to s.world k.rises next (int_eq next (pos s.world.committed)) in
+      let led : World = (taking_over s epoch next).world in
+      let v : Rises (in_lead s epoch next) = rises_with_batch led (record { started = u.started; covered = u.covered; ends = u.ends }) (as_items (giving_up led)) in
       gives_done P (after_lead s epoch next) (record {
-        rises = record { started = u.started; ends = u.ends };
+        rises = record { started = v.started; covered = v.covered; ends = v.ends };
         natural = k.natural;
-        at_standby = λ none. absurd cc;
+        at_standby = λ none. absurd (let some = lead_leading s epoch next below in cc);
       })))))
 
   commits_on : (epoch end : ℤ) → Gives P (commit s epoch end)
@@ -144,7 +152,15 @@ module _ (options : Options) (s : State) (k : IsOrderly s) where
       gives_refuse P (reasons.bad_commit end (pos s.world.committed) (pos (tip_of s))) (not (is_end s.world end)) _ (λ ends.
       let m = moves s.world.log (tip_of s) s.world.committed s.world.batch_ends end k.rises.ends (not_false (is_end s.world end) ends) in
       gives_done P (after_commit s end) (record {
-        rises = record { started = (let up = m.above in let low = k.rises.started in omega (arith, up, low)); ends = m.rise };
+        rises = record {
+          started = (let up = m.above in let low = k.rises.started in omega (arith, up, low));
+          covered =
+              covered_above (closed_of (after_commit s end).world) (unsigned_abs end) (s.world.covered ++ ends_up_to end s.world.batch_ends)
+              (up_to_both (unsigned_abs end) s.world.covered (ends_up_to end s.world.batch_ends)
+              (up_to_later (closed_of s.world) s.world.committed (unsigned_abs end) s.world.covered m.above k.rises.covered)
+              (passed_up_to end s.world.batch_ends m.natural));
+          ends = m.rise;
+        };
         natural = k.natural;
         at_standby = λ none. (ap (filter (λ n. int_lt end (pos n))) (k.at_standby none).0, (k.at_standby none).1);
       })))
@@ -153,7 +169,13 @@ module _ (options : Options) (s : State) (k : IsOrderly s) where
   loses_on epoch =
       gives_refuse P (reasons.not_leading epoch s.world.leading) (not (leads_in s.world.leading epoch)) _ (λ _.
       gives_done P (after_lost s) (record {
-        rises = record { started = k.rises.started; ends = sym (cut_tip s.world.log s.world.committed k.rises.started below) };
+        rises = record {
+          started = k.rises.started;
+          covered =
+              subst (λ c. AreCovered c s.world.committed s.world.covered)
+              (sym (ap (λ o. unwrap_or o s.world.committed) (open_cut_below s.world.log s.world.committed s.world.committed (omega arith)))) k.rises.covered;
+          ends = sym (cut_tip s.world.log s.world.committed k.rises.started below);
+        };
         natural = k.natural;
         at_standby = λ _. (refl, refl);
       }))
@@ -162,6 +184,12 @@ module _ (options : Options) (s : State) (k : IsOrderly s) where
   follows_so batch none = record {
     rises = record {
       started = omega arith;
+      covered =
+          let end : ℕ = tip_of s + length batch.items in
+          covered_above (closed_of (after_batch s batch).world) end (s.world.covered ++ end ∷ [])
+          (up_to_both end s.world.covered (end ∷ [])
+          (up_to_later (closed_of s.world) s.world.committed end s.world.covered (let low = below in omega (arith, low)) k.rises.covered)
+          (omega arith, tt));
       ends = subst (λ (ends : List ℕ). Rise (tip_of s + length batch.items) ends (tip (log_with s.world.log batch.items))) (sym (k.at_standby none).0) (sym (tip_written s.world.log batch.items));
     };
     natural = k.natural;
@@ -176,14 +204,14 @@ module _ (options : Options) (s : State) (k : IsOrderly s) where
   follows_on bytes =
       gives_refuse P (reasons.already_leading s.world.leading) (is_some s.world.leading) _ (λ none. gives_then (λ (b : Batch). Unit {0}) P (batch_or (batch_of bytes)) (take_batch s) (λ _ _. tt) (λ batch _.
       gives_refuse P (reasons.gap (pos s.world.committed) batch.base) (not (int_eq batch.base (pos s.world.committed))) _ (λ _. gives_refuse P (reasons.exhausted (end_of batch)) (is_far (end_of batch)) _ (λ _.
-      ill_on batch (first_ill (image_of_tip s) (pos (tip_of s)) batch.items) (none_is s.world.leading none)))))
+      ill_on batch (first_ill_at (state_of_tip s) (tip_of s) batch.items) (none_is s.world.leading none)))))
 
   loads_on : (bytes : List ℕ) → Gives P (load s bytes)
   loads_on bytes =
       gives_refuse P (reasons.already_leading s.world.leading) (is_some s.world.leading) _ (λ _. gives_then (λ (x : ℤ × Image). Unit {0}) P (image_or (image_of bytes)) (take_image s) (λ _ _. tt) (λ x _.
       gives_refuse P (reasons.older_image x.0 (pos s.world.committed)) (int_lt x.0 (pos s.world.committed)) _ (λ _. gives_refuse P (reasons.exhausted x.0) (is_far x.0) _ (λ _.
       gives_done P (after_load s (unsigned_abs x.0) x.1) (record {
-        rises = record { started = omega arith; ends = omega arith };
+        rises = record { started = omega arith; covered = tt; ends = omega arith };
         natural = k.natural;
         at_standby = λ none. (refl, (k.at_standby none).1);
       })))))
@@ -217,7 +245,7 @@ module _ (options : Options) (s : State) (k : IsOrderly s) where
   serves_on ask =
       gives_refuse P (reasons.exhausted (pos (tip_of s))) (is_decided s.world ask && is_far (pos (tip_of s))) _ (λ _. gives_done P (after_ask options s ask) (asks_on ask))
 
-  goes_on : (event : Event) → Gives P (outcome options s event)
+  pub goes_on : (event : Event) → Gives P (outcome options s event)
   goes_on (events.Lead epoch next now) = leads_on epoch next
   goes_on (events.Commit epoch end) = commits_on epoch end
   goes_on (events.Lost epoch) = loses_on epoch
@@ -228,7 +256,7 @@ module _ (options : Options) (s : State) (k : IsOrderly s) where
   goes_on events.Image = gives_done P s k
 
 pub counted_orderly : (s : State) → IsOrderly s → IsOrderly (with_next_number s)
-counted_orderly s k = record { rises = record { started = k.rises.started; ends = k.rises.ends }; natural = k.natural; at_standby = k.at_standby }
+counted_orderly s k = record { rises = record { started = k.rises.started; covered = k.rises.covered; ends = k.rises.ends }; natural = k.natural; at_standby = k.at_standby }
 
 pub timed_orderly : (s : State) (event : Event) → IsOrderly s → IsOrderly (at_time_of s event)
 timed_orderly s event k = record { rises = k.rises; natural = through (pos 0) s.basis.time (time_after s.basis.time event) k.natural (not_earlier s.basis.time event); at_standby = k.at_standby }
@@ -255,7 +283,7 @@ module _ (options : Options) where
 
   none_yet : Holds []
   none_yet = record {
-    orderly = record { rises = record { started = omega arith; ends = refl }; natural = omega (arith, ints); at_standby = λ _. (refl, refl) };
+    orderly = record { rises = record { started = omega arith; covered = tt; ends = refl }; natural = omega (arith, ints); at_standby = λ _. (refl, refl) };
     led = λ epoch is. absurd cc;
     known = tt;
     least = refl;
@@ -266,7 +294,7 @@ module _ (options : Options) where
     s = state options past
 
     goes : Goes s.world (happens options s event).world
-    goes = event_goes options s event h.orderly.rises.ends
+    goes = event_goes options s event h.orderly.rises.started h.orderly.rises.ends
 
     known_then : AreKnown (happens options s event).world (writes_from options start past ++ new_writes options s event)
     known_then = known_later s.world (happens options s event).world _ goes.succeeds.greatest

@@ -10,7 +10,7 @@ use Rattle.kr_model.specs.Outputs.{answers, due_reply, due_writes, is_open, told
 use Rattle.kr_model.specs.World.{State}
 
 abbrev due : Core → List Output
-due e = answers e.leading e.committed e.held
+due e = answers e.leading e.closed e.held
 
 -- what an engine has to hand out yet is no part of what it stands for
 pub handing_out_stands : (e : Core) (outputs : List Output) (refusal : Option Output) (fresh : List Entry) (s : State) (writes : List Write)
@@ -18,6 +18,7 @@ pub handing_out_stands : (e : Core) (outputs : List Output) (refusal : Option Ou
 handing_out_stands e outputs refusal fresh s writes k = record {
   tip = k.tip;
   committed = k.committed;
+  closed = k.closed;
   leading = k.leading;
   greatest = k.greatest;
   count = k.count;
@@ -26,17 +27,20 @@ handing_out_stands e outputs refusal fresh s writes k = record {
   heard_of = k.heard_of;
   present = k.present;
   kept = k.kept;
+  begun = k.begun;
+  kept_begun = k.kept_begun;
   weighed = k.weighed;
   waits = k.waits;
   ordered = k.ordered;
   is_state = k.is_state;
 }
 
-held_stands : (e : Core) (held : List Write) → filter (is_open e.leading e.committed) held ≡ filter (is_open e.leading e.committed) e.held → writes_in_order held ≡ true
+held_stands : (e : Core) (held : List Write) → filter (is_open e.leading e.closed) held ≡ filter (is_open e.leading e.closed) e.held → writes_in_order held ≡ true
     → (s : State) (writes : List Write) → IsEngine e s writes → IsEngine (record e { held = held }) s writes
 held_stands e held opens ordered s writes k = record {
   tip = k.tip;
   committed = k.committed;
+  closed = k.closed;
   leading = k.leading;
   greatest = k.greatest;
   count = k.count;
@@ -45,6 +49,8 @@ held_stands e held opens ordered s writes k = record {
   heard_of = k.heard_of;
   present = k.present;
   kept = k.kept;
+  begun = k.begun;
+  kept_begun = k.kept_begun;
   weighed = k.weighed;
   waits = opens ∙ k.waits;
   ordered = ordered;
@@ -75,24 +81,24 @@ module _ (e : Core) (ordered : writes_in_order e.held ≡ true) where
     stands = handing_out_stands e e.given None e.fresh;
   }
 
-  only_due : (held : List Write) → e.given ≡ [] → e.refusal ≡ None → outputs_left (record e { held = held }) ≡ answers e.leading e.committed held
+  only_due : (held : List Write) → e.given ≡ [] → e.refusal ≡ None → outputs_left (record e { held = held }) ≡ answers e.leading e.closed held
   only_due held none is =
-      ap (λ g. g ++ option_to_list e.refusal ++ answers e.leading e.committed held) none
-      ∙ ap (λ o. option_to_list o ++ answers e.leading e.committed held) is
+      ap (λ g. g ++ option_to_list e.refusal ++ answers e.leading e.closed held) none
+      ∙ ap (λ o. option_to_list o ++ answers e.leading e.closed held) is
 
   if_none : (o : Option Output) (P : Type 0) → IfNone o P → o ≡ None → P
   if_none None P p is = p
   if_none (Some x) P p is = absurd cc
 
   then_due : (held : List Write) (output : Option Output) → e.given ≡ [] → e.refusal ≡ None
-      → due e ≡ option_to_list output ++ answers e.leading e.committed held
-      → IfNone output (answers e.leading e.committed held ≡ [])
-      → filter (is_open e.leading e.committed) held ≡ filter (is_open e.leading e.committed) e.held → writes_in_order held ≡ true
+      → due e ≡ option_to_list output ++ answers e.leading e.closed held
+      → IfNone output (answers e.leading e.closed held ≡ [])
+      → filter (is_open e.leading e.closed) held ≡ filter (is_open e.leading e.closed) e.held → writes_in_order held ≡ true
       → Hands e (record e { held = held }) output
   then_due held output none is in_order all opens after = record {
     options = refl;
     in_order = only_due e.held none is ∙ (in_order ∙ ap (λ rest. option_to_list output ++ rest) (sym (only_due held none is)));
-    all = λ no. only_due held none is ∙ if_none output (answers e.leading e.committed held ≡ []) all no;
+    all = λ no. only_due held none is ∙ if_none output (answers e.leading e.closed held ≡ []) all no;
     ordered = after;
     fresh = refl;
     stands = held_stands e held opens after;
@@ -122,7 +128,7 @@ none_so leading end writes None none = sym (told_outputs end (due_writes leading
 none_so leading end writes (Some t) none = tt
 
 abbrev due_told : Core → List Told
-due_told e = told_answers e.leading e.committed e.held
+due_told e = told_answers e.leading e.closed e.held
 
 told_given : (e : Core) (output : Output) (rest : List Output) → e.given ≡ output ∷ rest → HandsTold e (record e { given = rest }) (Some (told_alone output))
 told_given e output rest is = ap (λ g. map told_alone (g ++ option_to_list e.refusal) ++ due_told e) is
@@ -133,12 +139,12 @@ told_refusal e output none is =
     ∙ (ap (λ o. map told_alone (option_to_list o) ++ due_told e) is
     ∙ sym (ap (λ g. told_alone output ∷ (map told_alone (g ++ []) ++ due_told e)) none))
 
-only_told : (e : Core) (held : List Write) → e.given ≡ [] → e.refusal ≡ None → told_left (record e { held = held }) ≡ told_answers e.leading e.committed held
+only_told : (e : Core) (held : List Write) → e.given ≡ [] → e.refusal ≡ None → told_left (record e { held = held }) ≡ told_answers e.leading e.closed held
 only_told e held none is =
-    ap (λ g. map told_alone (g ++ option_to_list e.refusal) ++ told_answers e.leading e.committed held) none
-    ∙ ap (λ o. map told_alone (option_to_list o) ++ told_answers e.leading e.committed held) is
+    ap (λ g. map told_alone (g ++ option_to_list e.refusal) ++ told_answers e.leading e.closed held) none
+    ∙ ap (λ o. map told_alone (option_to_list o) ++ told_answers e.leading e.closed held) is
 
-told_due : (e : Core) (held : List Write) (told : Option Told) → e.given ≡ [] → e.refusal ≡ None → due_told e ≡ option_to_list told ++ told_answers e.leading e.committed held → HandsTold e (record e { held = held }) told
+told_due : (e : Core) (held : List Write) (told : Option Told) → e.given ≡ [] → e.refusal ≡ None → due_told e ≡ option_to_list told ++ told_answers e.leading e.closed held → HandsTold e (record e { held = held }) told
 told_due e held told none is in_order = only_told e e.held none is ∙ (in_order ∙ ap (λ rest. option_to_list told ++ rest) (sym (only_told e held none is)))
 
 -- ---- with the engine that a call leaves
@@ -172,9 +178,9 @@ refusal_so e between after output told ordered given none same is left told_is =
 
 answer_so : (e given_out between after : Core) (told : Option Told) → writes_in_order e.held ≡ true → e.given ≡ given_out.given → given_out.given ≡ [] → given_out ≡ record e { given = given_out.given }
     → None ≡ given_out.refusal → between ≡ record given_out { refusal = None }
-    → told_answers between.leading between.committed between.held ≡ option_to_list told ++ told_answers between.leading between.committed after.held
-    → IfNone told (told_answers between.leading between.committed after.held ≡ [])
-    → filter (is_open between.leading between.committed) after.held ≡ filter (is_open between.leading between.committed) between.held
+    → told_answers between.leading between.closed between.held ≡ option_to_list told ++ told_answers between.leading between.closed after.held
+    → IfNone told (told_answers between.leading between.closed after.held ≡ [])
+    → filter (is_open between.leading between.closed) after.held ≡ filter (is_open between.leading between.closed) between.held
     → writes_in_order after.held ≡ true → after ≡ record between { held = after.held } → Gives e after told
 answer_so e given_out between after told ordered given none same no_refusal left in_order all waits then is =
     let first = same_given e given_out given same in
@@ -182,14 +188,14 @@ answer_so e given_out between after told ordered given none same no_refusal left
     let held = after.held in
     let no_given = given ∙ none in
     let no_refused = sym (no_refusal ∙ ap (λ (b : Core). b.refusal) first) in
-    let is_first = subst (λ (b : Core). told_answers b.leading b.committed b.held ≡ option_to_list told ++ told_answers b.leading b.committed held) both in_order in
+    let is_first = subst (λ (b : Core). told_answers b.leading b.closed b.held ≡ option_to_list told ++ told_answers b.leading b.closed held) both in_order in
     subst (λ (a : Core). Gives e a told) (sym (is ∙ ap (λ (b : Core). record b { held = held }) both))
     (record {
       hands =
           then_due e ordered held (output_of told) no_given no_refused
-          (answers_so e.leading e.committed e.held held told is_first)
-          (none_so e.leading e.committed held told (subst (λ (b : Core). IfNone told (told_answers b.leading b.committed held ≡ [])) both all))
-          (subst (λ (b : Core). filter (is_open b.leading b.committed) held ≡ filter (is_open b.leading b.committed) b.held) both waits)
+          (answers_so e.leading e.closed e.held held told is_first)
+          (none_so e.leading e.closed held told (subst (λ (b : Core). IfNone told (told_answers b.leading b.closed held ≡ [])) both all))
+          (subst (λ (b : Core). filter (is_open b.leading b.closed) held ≡ filter (is_open b.leading b.closed) b.held) both waits)
           then;
       tells = told_due e held told no_given no_refused is_first;
     })
@@ -210,18 +216,18 @@ tells_refusal e between after output told ordered given none same is left told_i
 
 pub hands_answer : (e given_out between after : Core) (told : Option Told) → writes_in_order e.held ≡ true → e.given ≡ given_out.given → given_out.given ≡ [] → given_out ≡ record e { given = given_out.given }
     → None ≡ given_out.refusal → between ≡ record given_out { refusal = None }
-    → told_answers between.leading between.committed between.held ≡ option_to_list told ++ told_answers between.leading between.committed after.held
-    → IfNone told (told_answers between.leading between.committed after.held ≡ [])
-    → filter (is_open between.leading between.committed) after.held ≡ filter (is_open between.leading between.committed) between.held
+    → told_answers between.leading between.closed between.held ≡ option_to_list told ++ told_answers between.leading between.closed after.held
+    → IfNone told (told_answers between.leading between.closed after.held ≡ [])
+    → filter (is_open between.leading between.closed) after.held ≡ filter (is_open between.leading between.closed) between.held
     → writes_in_order after.held ≡ true → after ≡ record between { held = after.held } → Hands e after (output_of told)
 hands_answer e given_out between after told ordered given none same no_refusal left in_order all waits then is =
     (answer_so e given_out between after told ordered given none same no_refusal left in_order all waits then is).hands
 
 pub tells_answer : (e given_out between after : Core) (told : Option Told) → writes_in_order e.held ≡ true → e.given ≡ given_out.given → given_out.given ≡ [] → given_out ≡ record e { given = given_out.given }
     → None ≡ given_out.refusal → between ≡ record given_out { refusal = None }
-    → told_answers between.leading between.committed between.held ≡ option_to_list told ++ told_answers between.leading between.committed after.held
-    → IfNone told (told_answers between.leading between.committed after.held ≡ [])
-    → filter (is_open between.leading between.committed) after.held ≡ filter (is_open between.leading between.committed) between.held
+    → told_answers between.leading between.closed between.held ≡ option_to_list told ++ told_answers between.leading between.closed after.held
+    → IfNone told (told_answers between.leading between.closed after.held ≡ [])
+    → filter (is_open between.leading between.closed) after.held ≡ filter (is_open between.leading between.closed) between.held
     → writes_in_order after.held ≡ true → after ≡ record between { held = after.held } → HandsTold e after told
 tells_answer e given_out between after told ordered given none same no_refusal left in_order all waits then is =
     (answer_so e given_out between after told ordered given none same no_refusal left in_order all waits then is).tells

@@ -54,18 +54,18 @@ module _ {X Y : Type 0} (f : X → Y) (p : X → Bool) where
 pub record IsDrained (e : Core) : Type 0 where
   pub none_given : e.given ≡ []
   pub none_refused : e.refusal ≡ None
-  pub none_due : answers e.leading e.committed e.held ≡ []
-  pub all_wait : filter (is_open e.leading e.committed) e.held ≡ e.held
+  pub none_due : answers e.leading e.closed e.held ≡ []
+  pub all_wait : filter (is_open e.leading e.closed) e.held ≡ e.held
 
 pub drained : (e : Core) → outputs_left e ≡ [] → IsDrained e
 drained e none =
-    let due = answers e.leading e.committed e.held in
+    let due = answers e.leading e.closed e.held in
     let before = nil_left (e.given ++ option_to_list e.refusal) due none in
     let none_due = nil_right (e.given ++ option_to_list e.refusal) due none in record {
       none_given = nil_left e.given (option_to_list e.refusal) before;
       none_refused = no_option e.refusal (nil_right e.given (option_to_list e.refusal) before);
       none_due = none_due;
-      all_wait = all_pass (due_reply e.committed) (is_open e.leading e.committed) e.held none_due;
+      all_wait = all_pass (due_reply e.closed) (is_open e.leading e.closed) e.held none_due;
     }
 
 -- ---- order

@@ -20,13 +20,13 @@ use Rattle.kr_defs.specs.declared.broker.Broker.{Broker}
 use Rattle.kr_defs.specs.declared.ill.Ill.{Ill}
 use Rattle.kr_defs.specs.declared.options.Options.{Options}
 use Rattle.kr_defs.specs.declared.record.Item.{Item}
-use Rattle.kr_defs.specs.declared.record.Item.TheVariants as items
 use Rattle.kr_defs.specs.declared.record.Record.{Record}
+use Rattle.kr_defs.specs.declared.record.Record.TheVariants as kinds
 use Rattle.kr_defs.specs.Apply.{apply, apply_record}
 use Rattle.kr_defs.specs.Guard.{and_then}
 use Rattle.kr_defs.specs.Image.{Image, IsValid, empty}
 use Rattle.kr_defs.specs.ImageLaws.{as_items}
-use Rattle.kr_defs.specs.Log.{Log, apply_all, image_at, tip}
+use Rattle.kr_defs.specs.Log.{Log, apply_all, image_at, open_at, tip}
 use Rattle.kr_defs.specs.Map as maps
 use Rattle.kr_defs.proofs.Logs.{valid_at}
 use Rattle.law_safety.specs.SafeChangeLaws.{AreSafe}
@@ -35,8 +35,8 @@ use Rattle.kr_model.specs.Commit.{commit, is_end}
 use Rattle.kr_model.specs.Entries.{entries_by, items_from, item_entries}
 use Rattle.kr_model.specs.Events.{outcome, at_time_of}
 use Rattle.kr_model.specs.Lost.{after_lost, lost}
-use Rattle.kr_model.specs.Lead.{lead, may_begin_at}
-use Rattle.kr_model.specs.World.{leads_in, State, image_of_tip, is_far, tip_of, with_batch, log_with}
+use Rattle.kr_model.specs.Lead.{giving_up, in_lead, lead, may_begin_at, taking_over}
+use Rattle.kr_model.specs.World.{leads_in, State, World, image_of_tip, is_far, tip_of, with_batch, log_with}
 use Rattle.kr_model.specs.Reasons.{already_leading, bad_commit, bad_next, exhausted, not_leading, old_epoch}
 use Rattle.kr_model.specs.Request.{after_write, decision, is_decided, request}
 use Rattle.kr_model.specs.SafeSteps.{AreSafeEntries, StepsAreSafe, exchange_in, is_anothers}
@@ -44,6 +44,7 @@ use Rattle.kr_model.specs.Tick.{fence, fence_all, fencing_of, lapsed_contacts, t
 use Rattle.kr_model.proofs.Logs.{as_records, apply_append, tip_written}
 use Rattle.kr_model.proofs.LogEntries.{batch_written, behind, cut_behind, none_behind, placed_both}
 use Rattle.kr_model.proofs.LongerLogs.{present_then}
+use Rattle.kr_model.proofs.Leaderships.{control_if, lead_written}
 
 -- ---- records as entries
 
@@ -180,9 +181,16 @@ module _ (exchange : Option Exchange) (s : State) (event : Event) (image : Image
   refused_row true reason r safe = tt
   refused_row false reason r safe = safe
 
-control_safe : (image : Image) (place : ℤ) → AreSafeEntries None image (item_entries place (items.Control ∷ []))
-unfolding apply
-control_safe image place = (tt, tt)
+-- what a new leadership adds: an item of the quorum's own, and the record that gives up an open transaction
+abbrev abort_if : Bool → List Record
+abort_if c = cond c (kinds.AbortTransaction None ∷ []) []
+
+lead_items_safe : (image : Image) (place : ℤ) (b c : Bool) → AreSafeEntries None image (item_entries place (control_if b ++ as_items (abort_if c)))
+unfolding apply apply_record
+lead_items_safe image place true true = (tt, tt)
+lead_items_safe image place true false = tt
+lead_items_safe image place false true = (tt, (tt, tt))
+lead_items_safe image place false false = (tt, tt)
 
 safe_none : (exchange : Option Exchange) (image : Image) (place : ℤ) (items : List Item) → items ≡ [] → AreSafeEntries exchange image (item_entries place items)
 safe_none exchange image place items none = subst (λ (is : List Item). AreSafeEntries exchange image (item_entries place is)) (sym none) tt
@@ -194,11 +202,11 @@ module _ (options : Options) (s : State) (image : Image) (valid : IsValid image)
       refused_row None s event image (is_some s.world.leading) (already_leading s.world.leading) _
       (refused_row None s event image (not (int_lt s.world.greatest epoch)) (old_epoch epoch s.world.greatest) _
       (refused_row None s event image (not (may_begin_at s.world next)) (bad_next next (pos s.world.committed)) _
-      (refused_row None s event image (is_far next) (exhausted next) _ (begins (int_eq next (pos s.world.committed))))))
-    where
-      begins : (b : Bool) → AreSafeEntries None image (item_entries (pos (tip_of s)) (items_from (cond b s.world (with_batch s.world (items.Control ∷ []))).log (tip_of s)))
-      begins true = safe_none None image (pos (tip_of s)) (items_from s.world.log (tip_of s)) (none_behind s.world.log)
-      begins false = safe_added None s.world.log (with_batch s.world (items.Control ∷ [])).log (items.Control ∷ []) image (batch_written s.world (items.Control ∷ [])) (control_safe image (pos (tip_of s)))
+      (refused_row None s event image (is_far next) (exhausted next) _
+      (let timed = at_time_of s event in
+      let led : World = (taking_over timed epoch next).world in
+      safe_added None s.world.log (in_lead timed epoch next).log (control_if (int_eq next (pos s.world.committed)) ++ as_items (giving_up led)) image (lead_written timed epoch next)
+      (lead_items_safe image (pos (tip_of s)) (int_eq next (pos s.world.committed)) (is_some (open_at led.log (tip led.log))))))))
 
   commit_safe : (epoch end : ℤ) → IsSafeBy None s (events.Commit epoch end) image (commit s epoch end)
   commit_safe epoch end =

@@ -1,6 +1,6 @@
 -- What a contract sees of an engine, and for which past events it stands.
-use Rattle.std.specs.Prelude.{◌≡◌, ◌≤◌, ◌<◌, ℕ, ℤ, pos, int_le, unsigned_abs, List, [], ◌∷◌, ◌++◌, All, map, filter, option_to_list, Bool, true, ◌&&◌, IsTrue, IsSome, Option, None, Ok}
-use Rattle.std.specs.List.{list_all}
+use Rattle.std.specs.Prelude.{◌≡◌, ◌≤◌, ◌<◌, ℕ, ℤ, pos, int_le, unsigned_abs, List, [], ◌∷◌, ◌++◌, All, map, filter, option_to_list, Bool, true, ◌&&◌, IsTrue, IsSome, IfSome, Option, None, Ok}
+use Rattle.std.specs.List.{AllByRecursion, list_all}
 use Rattle.std.specs.Option.{option_map}
 use Rattle.std.specs.Ordering.{int_eq}
 use Rattle.kr_calls.specs.declared.events.Entry.{Entry}
@@ -12,7 +12,7 @@ use Rattle.kr_defs.specs.declared.options.Options.{Options}
 use Rattle.kr_defs.specs.Heartbeats as hearing
 use Rattle.kr_defs.specs.Heartbeats.{Heartbeats}
 use Rattle.kr_defs.specs.Image.{Image, IsValid}
-use Rattle.kr_defs.specs.Log.{Log, image_at}
+use Rattle.kr_defs.specs.Log.{Log, image_at, open_at}
 use Rattle.law_safety.specs.HearingLaws.{HearsOf}
 use Rattle.kr_store.specs.Images.{Images}
 use Rattle.kr_model.specs.declared.writes.Told.{Told}
@@ -20,16 +20,18 @@ use Rattle.kr_model.specs.declared.writes.Write.{Write}
 use Rattle.kr_model.specs.Entries.{log_entries}
 use Rattle.kr_model.specs.Events.{happens}
 use Rattle.kr_model.specs.Outputs.{answers, is_open, new_writes, outputs_of, told_alone, told_answers, waiting_after}
-use Rattle.kr_model.specs.Weights.{IsWeighed}
-use Rattle.kr_model.specs.World.{State, image_of_tip, seen_at, tip_of}
+use Rattle.kr_model.specs.Weights.{IsWeighed, weight_settled}
+use Rattle.kr_model.specs.World.{State, World, closed_of, image_of_tip, seen_at, tip_of}
 
 pub record Core : Type 0 where
   pub options : Options
-  -- the image at the tip; kept are those at the committed end and at the ends of the batches above it
+  -- the state at the tip; kept are those at the closed end and at the ends of batches above it
   pub images : Images
   pub heard : Heartbeats
   pub tip : ℤ
   pub committed : ℤ
+  -- the closed end
+  pub closed : ℤ
   pub leading : Option ℤ
   pub greatest : ℤ
   pub count : ℕ
@@ -45,11 +47,11 @@ pub record Core : Type 0 where
 
 -- the outputs of the last event that aren't handed out yet
 abbrev pub outputs_left : Core → List Output
-outputs_left e = e.given ++ option_to_list e.refusal ++ answers e.leading e.committed e.held
+outputs_left e = e.given ++ option_to_list e.refusal ++ answers e.leading e.closed e.held
 
 -- the same, and with each reply of a write that waited how the write ended
 abbrev pub told_left : Core → List Told
-told_left e = map told_alone (e.given ++ option_to_list e.refusal) ++ told_answers e.leading e.committed e.held
+told_left e = map told_alone (e.given ++ option_to_list e.refusal) ++ told_answers e.leading e.closed e.held
 
 -- a copy of what decisions rest on besides the image
 abbrev pub basis_of : Core → Basis
@@ -72,10 +74,16 @@ pub record IsState (s : State) (writes : List Write) : Type 0 where
   -- the image that the log starts from
   pub valid : IsValid s.world.log.image
   pub started : s.world.log.offset ≤ s.world.committed
+  -- the last covered batch ends at the committed end
+  pub settled : Rise (closed_of s.world) s.world.covered s.world.committed
   -- the last batch ends at the tip
   pub ends : Rise s.world.committed s.world.batch_ends (tip_of s)
+  -- what is open at the end of a batch was open at the committed end
+  pub begun : AllByRecursion (λ (n : ℕ). IfSome (open_at s.world.log n) (λ begin. begin < s.world.committed)) s.world.batch_ends
   pub low : tip_of s ≤ unsigned_abs PLACES_END
   pub at_standby : s.world.leading ≡ None → (s.world.batch_ends ≡ []) × (hearing.heard s.basis ≡ hearing.end)
+  -- a leader has given up what was open
+  pub decided : IsSome s.world.leading → open_at s.world.log (tip_of s) ≡ None
   pub hears : IsSome s.world.leading → HearsOf (hearing.heard s.basis) (image_of_tip s)
   -- nobody was heard of later than now
   pub in_time : IsTrue (list_all (λ c. int_le c.time s.basis.time) s.basis.contacts)
@@ -88,9 +96,18 @@ pub record IsState (s : State) (writes : List Write) : Type 0 where
 abbrev pub kept_image : Log → ℕ → ℤ × Image
 kept_image log place = (pos place, seen_at log place)
 
+-- the place of the transaction that is open at the place, under that place
+abbrev pub kept_begin : Log → ℕ → ℤ × Option ℤ
+kept_begin log place = (pos place, option_map (λ (n : ℕ). pos n) (open_at log place))
+
+-- the places that are kept: the closed end, and the ends of batches above it
+abbrev pub kept_places : World → List ℕ
+kept_places w = closed_of w ∷ w.covered ++ w.batch_ends
+
 pub record IsEngine (e : Core) (s : State) (writes : List Write) : Type 0 where
   pub tip : e.tip ≡ pos (tip_of s)
   pub committed : e.committed ≡ pos s.world.committed
+  pub closed : e.closed ≡ pos (closed_of s.world)
   pub leading : e.leading ≡ s.world.leading
   pub greatest : e.greatest ≡ s.world.greatest
   pub count : e.count ≡ s.world.count
@@ -98,9 +115,11 @@ pub record IsEngine (e : Core) (s : State) (writes : List Write) : Type 0 where
   pub led : e.led ≡ s.basis.led
   pub heard_of : e.heard ≡ hearing.heard s.basis
   pub present : image_at s.world.log (tip_of s) ≡ Ok e.images.tip
-  pub kept : e.images.kept ≡ map (kept_image s.world.log) (s.world.committed ∷ s.world.batch_ends)
-  pub weighed : IsWeighed e.images s.world.log s.world.committed s.world.batch_ends
-  pub waits : filter (is_open e.leading e.committed) e.held ≡ writes
+  pub kept : e.images.kept ≡ map (kept_image s.world.log) (kept_places s.world)
+  pub begun : e.images.begun ≡ option_map (λ (n : ℕ). pos n) (open_at s.world.log (tip_of s))
+  pub kept_begun : e.images.kept_begun ≡ map (kept_begin s.world.log) (kept_places s.world)
+  pub weighed : IsWeighed e.images s.world.log (closed_of s.world) (weight_settled s.world.log s.world.committed) (s.world.covered ++ s.world.batch_ends)
+  pub waits : filter (is_open e.leading e.closed) e.held ≡ writes
   pub ordered : IsTrue (writes_in_order e.held)
   pub is_state : IsState s writes
 

@@ -15,7 +15,7 @@ image_or (Err fault) = Err (bad_image fault)
 -- the image is the new start
 abbrev pub after_load : State → ℕ → Image → State
 after_load s offset image = record s {
-  world = record s.world { log = record { offset = offset; image = image; items = [] }; committed = offset; batch_ends = [] };
+  world = record s.world { log = record { offset = offset; image = image; items = [] }; committed = offset; covered = []; batch_ends = [] };
 }
 
 abbrev pub take_image : State → ℤ × Image → Result State Reason

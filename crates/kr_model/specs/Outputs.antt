@@ -1,5 +1,5 @@
 -- What a controller gives out: the batches that it appends, refusals and images, and replies. A write's reply comes once all
--- that it saw or made is committed, or says that the leadership was lost before.
+-- that it saw or made is below the closed end, or says that the leadership was lost before.
 use Rattle.std.specs.Prelude.{ℕ, ℤ, pos, int_lt, ◌&&◌, ◌==◌, Bool, not, List, [], ◌∷◌, ◌++◌, length, map, filter, option_to_list, is_some, Option, Some, None, Result, Ok, Err, if◌then◌else◌}
 use Rattle.kr_batch.specs.declared.Batch.{Batch}
 use Rattle.kr_batch.specs.BatchBytes.{batch_bytes}
@@ -28,8 +28,9 @@ use Rattle.kr_model.specs.declared.writes.Ended.{Ended}
 use Rattle.kr_model.specs.declared.writes.Told.{Told}
 use Rattle.kr_model.specs.declared.writes.Write.{Write}
 use Rattle.kr_model.specs.Events.{happens, next_number, outcome, state, at_time_of}
-use Rattle.kr_model.specs.World.{leads_in, State, World, image_of_end, image_of_tip, start, tip_of}
+use Rattle.kr_model.specs.World.{closed_of, leads_in, State, World, image_of_closed, image_of_tip, start, tip_of}
 use Rattle.kr_model.specs.Reasons.{led_epoch}
+use Rattle.kr_model.specs.Lead.{giving_up, taking_over}
 use Rattle.kr_model.specs.Request.{after_ask, decision, is_decided}
 use Rattle.kr_model.specs.Tick.{fence, fencing_of, lapsed_contacts}
 
@@ -55,14 +56,15 @@ append_for options s (asks.Bare correlation fault) = []
 
 -- the batches of an accepted event
 abbrev pub appends : Options → State → Event → List Output
+appends options s (events.Lead epoch next now) = append (taking_over s epoch next) (giving_up (taking_over s epoch next).world)
 appends options s (events.Tick now) = append_fencings options s (lapsed_contacts options s)
 appends options s (events.Request client now ask) = append_for options s ask
 appends options s other = []
 
--- ---- images: the committed one
+-- ---- images: the one at the closed end
 
 abbrev pub images : State → Event → List Output
-images s events.Image = given.Image (image_text (pos s.world.committed) (image_of_end s)) ∷ []
+images s events.Image = given.Image (image_text (pos (closed_of s.world)) (image_of_closed s)) ∷ []
 images s other = []
 
 -- ---- replies that wait for nothing
@@ -72,10 +74,10 @@ abbrev pub error_of : AskFault → ℤ
 error_of (faults.Unsupported key version) = UNSUPPORTED_VERSION
 error_of other = INVALID_REQUEST
 
--- a read is answered on the committed image; a write on standby is refused by NOT_CONTROLLER
+-- a read is answered on the image at the closed end; a write on standby is refused by NOT_CONTROLLER
 abbrev pub replies_now : Options → State → Request → List Reply
 replies_now options s request =
-    if is_read request then option_to_list (query options (image_of_end s) request) else
+    if is_read request then option_to_list (query options (image_of_closed s) request) else
     if is_some s.world.leading then [] else refuse request NOT_CONTROLLER ∷ []
 
 abbrev pub answers_now : Options → State → Event → List Output
@@ -117,18 +119,18 @@ abbrev pub writes_from : Options → State → List Event → List Write
 writes_from options s [] = []
 writes_from options s (event ∷ events) = new_writes options s event ++ writes_from options (happens options s event) events
 
--- the leadership that decided it goes on, and what it needs isn't below the committed end yet
+-- the leadership that decided it goes on, and what it needs isn't below the closed end yet
 abbrev pub is_open : Option ℤ → ℤ → Write → Bool
 is_open leading end write = leads_in leading write.epoch && int_lt end write.need
 
 abbrev pub is_open_in : World → Write → Bool
-is_open_in w write = is_open w.leading (pos w.committed) write
+is_open_in w write = is_open w.leading (pos (closed_of w)) write
 
 -- of all past writes those that wait
 abbrev pub waiting_writes : Options → List Event → List Write
 waiting_writes options past = filter (is_open_in (state options past).world) (writes_from options start past)
 
--- the reply of a write that waits no more: its own where what it needs is committed, else the leadership was lost before
+-- the reply of a write that waits no more: its own where what it needs is closed, else the leadership was lost before
 abbrev pub due_reply : ℤ → Write → Output
 due_reply end write = given.Reply write.client write.correlation (if int_lt end write.need then write.refusal else write.reply)
 
@@ -140,7 +142,7 @@ abbrev pub answers : Option ℤ → ℤ → List Write → List Output
 answers leading end writes = map (due_reply end) (due_writes leading end writes)
 
 abbrev pub answers_in : World → List Write → List Output
-answers_in w writes = answers w.leading (pos w.committed) writes
+answers_in w writes = answers w.leading (pos (closed_of w)) writes
 
 -- ---- how writes end
 

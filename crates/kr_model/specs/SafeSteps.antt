@@ -34,7 +34,8 @@ abbrev pub IsSafeItem : Option Exchange → Image → Item → Type 0
 IsSafeItem exchange image (items.Record r) = IsSafeRecord exchange image r
 IsSafeItem exchange image items.Control = Unit {0}
 
--- each item is safe on the image just below its place, which is this one for the first
+-- Each item is safe on the image just below its place, which is this one for the first. An abort is the last item that a step
+-- appends: behind one nothing is asked.
 abbrev pub AreSafeEntries : Option Exchange → Image → List Entry → Type 0
 AreSafeEntries exchange image [] = Unit {0}
 AreSafeEntries exchange image (entries.Item place item ∷ others) = IsSafeItem exchange image item × IfOk (apply image item) (λ after. AreSafeEntries exchange after others)

@@ -10,7 +10,7 @@ use Rattle.kr_batch.specs.declared.Batch.{Batch}
 use Rattle.kr_defs.specs.declared.options.Options.{Options}
 use Rattle.kr_defs.specs.declared.ill.Ill.{Ill}
 use Rattle.kr_defs.specs.Image.{Image, empty}
-use Rattle.kr_model.specs.World.{image_of_end}
+use Rattle.kr_model.specs.World.{closed_of, seen_at}
 use Rattle.law_nodes.specs.declared.moves.Move.{Move}
 use Rattle.law_nodes.specs.declared.moves.MoveFault.{MoveFault}
 use Rattle.law_nodes.specs.declared.moves.MoveFault.TheVariants as faults
@@ -18,7 +18,9 @@ use Rattle.law_nodes.specs.Agreement.{IsTold, RunAgrees}
 use Rattle.law_nodes.specs.Moves.{after_move, committed_end, move_outcome, run}
 use Rattle.law_nodes.specs.NodeEvents.{writes_in}
 use Rattle.law_nodes.specs.Nodes.{NodeTold, Run, RunNode, first_run}
-use Rattle.law_nodes.proofs.AllMoves.{nodes_agree}
+use Rattle.law_nodes.proofs.AllMoves.{nodes_agree, run_is}
+use Rattle.law_nodes.proofs.Invariant.{IsNode, at_node}
+use Rattle.law_nodes.proofs.Logs.{all_closed}
 use Rattle.kr_nodes.specs.declared.cluster.Cluster.{Cluster}
 use Rattle.kr_nodes.specs.declared.node.Node.{Node}
 use Rattle.kr_nodes.specs.inner.Acting.{AreIdle, MakesRun, MakesSome}
@@ -120,7 +122,9 @@ told_again list (t ∷ ts) h = (h.0, told_again list ts h.1)
 pub agrees : (c : Cluster) → StandsForSomeMoves c → ClusterAgrees c
 agrees c s =
     let r = run s.options s.nodes s.past in
-    let a : RunAgrees r = nodes_agree s.options s.nodes s.past in record {
+    let a : RunAgrees r = nodes_agree s.options s.nodes s.past in
+    let no_transaction : (k : ℕ) (n : RunNode) → slice_get r.nodes k ≡ Some n → closed_of n.state.world ≡ n.state.world.committed = λ k n is.
+    all_closed n.state.world.log (at_node (IsNode r.list r.elected) r.nodes k n (run_is s.options s.nodes s.past).nodes is).core.means n.state.world.committed in record {
       list = r.list;
       list_is = s.stands.shared.list;
       follow = λ k node is. let p = there s.options r c s.stands k node is in record { state = p.0.state; writes = writes_in p.0.waiting; stands = p.2.engine; follows = a.follows k p.0 p.1 };
@@ -128,8 +132,8 @@ agrees c s =
           let p = there s.options r c s.stands j m is_m in
           let q = there s.options r c s.stands k n is_n in
           let ends : committed_end p.0 ≡ committed_end q.0 = as_numbers m.engine.committed n.engine.committed (committed_end p.0) (committed_end q.0) p.2.engine.committed q.2.engine.committed same in
-          let images : image_of_end p.0.state ≡ image_of_end q.0.state = ap (λ (x : Result Image Ill). result_unwrap_or x empty) (a.equal j k p.0 q.0 p.1 q.1 ends) in
-          (image_of_end p.0.state, kept_end m.engine p.0.state (writes_in p.0.waiting) p.2.engine, kept_end n.engine q.0.state (writes_in q.0.waiting) q.2.engine ∙ ap (λ (i : Image). Some i) (sym images));
+          let images : seen_at p.0.state.world.log (committed_end p.0) ≡ seen_at q.0.state.world.log (committed_end q.0) = ap (λ (x : Result Image Ill). result_unwrap_or x empty) (a.equal j k p.0 q.0 p.1 q.1 ends) in
+          (seen_at p.0.state.world.log (committed_end p.0), kept_end m.engine p.0.state (writes_in p.0.waiting) p.2.engine (no_transaction j p.0 p.1), kept_end n.engine q.0.state (writes_in q.0.waiting) q.2.engine (no_transaction k q.0 q.1) ∙ ap (λ (i : Image). Some i) (sym images));
       told = subst (AllByRecursion (IsToldOf r.list)) (sym s.stands.shared.told) (told_again r.list r.told a.told);
     }
   where

@@ -13,7 +13,7 @@ use Rattle.kr_defs.specs.declared.ill.Ill.{Ill}
 use Rattle.kr_defs.specs.declared.options.Options.{Options}
 use Rattle.kr_defs.specs.Guard.{and_then}
 use Rattle.kr_defs.specs.Image.{Image}
-use Rattle.kr_defs.specs.Log.{first_ill}
+use Rattle.kr_defs.specs.LogStates.{first_ill_at}
 use Rattle.kr_defs.proofs.Tests.{Gives, gives_done, gives_refuse}
 use Rattle.kr_snapshot.specs.declared.fault.ImageFault.{ImageFault}
 use Rattle.kr_snapshot.specs.Reading.{image_of}
@@ -21,7 +21,7 @@ use Rattle.kr_model.specs.Batch.{after_batch, batch_or, end_of, take_batch, unle
 use Rattle.kr_model.specs.Events.{outcome, with_next_number}
 use Rattle.kr_model.specs.Load.{after_load, image_or, take_image}
 use Rattle.kr_model.specs.Reasons as reasons
-use Rattle.kr_model.specs.World.{State, image_of_tip, is_far, tip_of}
+use Rattle.kr_model.specs.World.{State, is_far, state_of_tip, tip_of}
 use Rattle.law_nodes.specs.Moves.{after_arrival}
 use Rattle.law_nodes.specs.Nodes.{RunNode, Waiting, after_by, after_event, at_own_end, tells_by, told_due, told_of, waits_in, writes_with}
 
@@ -105,7 +105,7 @@ batch_end : (s : State) (b : Batch) → Gives (λ (w : State). w.world.committed
 batch_end s b =
     let P : State → Type 0 = λ w. w.world.committed ≡ tip_of s + length b.items in
     gives_refuse P (reasons.gap (pos s.world.committed) b.base) (not (int_eq b.base (pos s.world.committed))) _ (λ _. gives_refuse P (reasons.exhausted (end_of b)) (is_far (end_of b)) _ (λ _.
-    ill_end s b (first_ill (image_of_tip s) (pos (tip_of s)) b.items)))
+    ill_end s b (first_ill_at (state_of_tip s) (tip_of s) b.items)))
 
 image_end : (s : State) (x : ℤ × Image) → Gives (λ (w : State). w.world.committed ≡ unsigned_abs x.0) (take_image s x)
 image_end s (offset, image) =

@@ -1,4 +1,4 @@
--- The image of one node's end, which another one loads.
+-- The image of one node's closed end, which another one loads.
 use Rattle.std.proofs.Common.{◌≡◌, ◌∙◌, sym, subst, ℕ, zero, suc, ℤ, pos, Bool, true, false, cond, List, [], ◌∷◌, ◌++◌, map, set, refl, ap, arith}
 use Rattle.std.specs.Prelude.{IfSome, Option, Some, None, Ok, filter, find}
 use Rattle.std.specs.List.{slice_get}
@@ -22,7 +22,7 @@ use Rattle.kr_model.specs.Engine.{Core, IsEngine, kept_image}
 use Rattle.kr_model.specs.Events.{happens, outcome}
 use Rattle.kr_model.specs.Outputs.{waiting_after}
 use Rattle.kr_model.specs.Load.{take_image}
-use Rattle.kr_model.specs.World.{State, image_of_end}
+use Rattle.kr_model.specs.World.{State, closed_of, image_of_closed, seen_at}
 use Rattle.kr_model.proofs.KeptImages.{first_found}
 use Rattle.law_nodes.specs.Moves.{after_arrival, committed_end}
 use Rattle.law_nodes.specs.Nodes.{NodeTold, RunNode, Waiting, after_event, waits_in}
@@ -39,12 +39,19 @@ use Rattle.kr_nodes.proofs.OwnEnds.{own_end}
 use Rattle.kr_nodes.proofs.Rows.{image_row}
 use Rattle.kr_nodes.proofs.Takings.{taken, taken_of, told_so}
 
--- the image at the committed end is always kept
-pub kept_end : (e : Core) (s : State) (writes : List Write) → IsEngine e s writes → kept_at e.images e.committed ≡ Some (image_of_end s)
-kept_end e s writes k =
-    ap (kept_at e.images) k.committed
-    ∙ (ap (λ (kept : List (ℤ × Image)). kept_at (record e.images { kept = kept }) (pos s.world.committed)) k.kept
-    ∙ first_found s.world.log s.world.committed (find (λ (i : ℤ × Image). int_eq i.0 (pos s.world.committed)) (map (kept_image s.world.log) s.world.batch_ends)))
+-- the image at the closed end is always kept
+kept_closed : (e : Core) (s : State) (writes : List Write) → IsEngine e s writes → kept_at e.images e.closed ≡ Some (image_of_closed s)
+kept_closed e s writes k =
+    let end = closed_of s.world in
+    ap (kept_at e.images) k.closed
+    ∙ (ap (λ (kept : List (ℤ × Image)). kept_at (record e.images { kept = kept }) (pos end)) k.kept
+    ∙ first_found s.world.log end (find (λ (i : ℤ × Image). int_eq i.0 (pos end)) (map (kept_image s.world.log) (s.world.covered ++ s.world.batch_ends))))
+
+-- and that at the committed end, where it is the same
+pub kept_end : (e : Core) (s : State) (writes : List Write) → IsEngine e s writes → closed_of s.world ≡ s.world.committed → kept_at e.images e.committed ≡ Some (seen_at s.world.log s.world.committed)
+kept_end e s writes k same =
+    ap (kept_at e.images) (k.committed ∙ (ap (λ n. pos n) (sym same) ∙ sym k.closed))
+    ∙ (kept_closed e s writes k ∙ ap (λ n. Some (seen_at s.world.log n)) same)
 
 read_by : (end : ℤ) (image : Image) (o : Option Image) → o ≡ Some image → IfSome o (λ i. IsImage end i (image_text end i)) → image_of (image_text end (unwrap_or o empty)) ≡ Ok (end, image)
 read_by end image None is stands = absurd cc
@@ -53,7 +60,7 @@ read_by end image (Some kept) is stands = image_complete end kept (image_text en
 pub gives : (node : Node) (event : Event) → IsImageEvent node.engine event → GivesImage node event
 gives node event i =
     subst (GivesImage node) (sym i.is)
-    (λ options list n s. read_by node.engine.committed (image_of_end n.state) (kept_at node.engine.images node.engine.committed) (kept_end node.engine n.state _ s.engine) i.stands)
+    (λ options list n s. read_by node.engine.closed (image_of_closed n.state) (kept_at node.engine.images node.engine.closed) (kept_closed node.engine n.state _ s.engine) i.stands)
 
 pub still_idle : (k : ℕ) (before after : Node) (is_write : Bool) (told told' : List ToldReply) (event : Event) → NodeTakes k before after is_write told told' event → IsIdleNode before → IsIdleNode after
 still_idle k before after is_write told told' event t i =

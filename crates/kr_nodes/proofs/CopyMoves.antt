@@ -11,14 +11,15 @@ use Rattle.kr_defs.specs.declared.options.Options.{Options}
 use Rattle.kr_defs.specs.Image.{Image}
 use Rattle.kr_defs.proofs.Tests.{some_is}
 use Rattle.kr_model.specs.Load.{take_image}
-use Rattle.kr_model.specs.World.{image_of_end}
+use Rattle.kr_model.specs.World.{image_of_closed}
 use Rattle.kr_snapshot.specs.Reading.{image_of}
 use Rattle.law_nodes.specs.declared.moves.Move.TheVariants as moves
 use Rattle.law_nodes.specs.declared.moves.MoveFault.{MoveFault}
 use Rattle.law_nodes.specs.declared.moves.MoveFault.TheVariants as faults
 use Rattle.law_nodes.specs.Moves as table
-use Rattle.law_nodes.specs.Moves.{after_arrival, committed_end, load_on, move_outcome, on_node, put_node, with_event}
+use Rattle.law_nodes.specs.Moves.{after_arrival, closed_end_of, committed_end, load_on, move_outcome, on_node, put_node, with_event}
 use Rattle.law_nodes.specs.Nodes.{Run, RunNode, after_event}
+use Rattle.law_nodes.proofs.Logs.{all_closed}
 use Rattle.law_nodes.proofs.Steps.{set_leading}
 use Rattle.kr_nodes.specs.declared.cluster.Cluster.{Cluster}
 use Rattle.kr_nodes.specs.declared.node.Node.{Node}
@@ -56,7 +57,7 @@ module _ (from to : ℕ) where
   copy_is options r f t is_f is_t = at_there r from f (λ f. on_node r to (λ t. table.copy options r from to f t)) is_f ∙ at_there r to t (λ t. table.copy options r from to f t) is_t
 
   abbrev then_load : Options → Run → RunNode → Result Run MoveFault
-  then_load options r f = load_on (with_event options r from f events.Image) to (pos (committed_end f), image_of_end f.state)
+  then_load options r f = load_on (with_event options r from f events.Image) to (pos (closed_end_of f), image_of_closed f.state)
 
   pub not_copied : (c : Cluster) (source : Node) (fault : MoveFault) → slice_get c.nodes.items from ≡ Some source → IsCopyFault c.nodes.items from to fault → MakesSome c c (moves.Copy from to) (Err fault)
   not_copied c source fault is_source (inl l) =
@@ -68,11 +69,11 @@ module _ (from to : ℕ) where
       subst (λ (f : MoveFault). MakesSome c c (moves.Copy from to) (Err f)) (sym o.is) (λ options r reached st.
       let p = there options r c st from o.source o.source_is in
       let q = there options r c st to o.target o.target_is in
-      let low : nat_lt (committed_end p.0) (committed_end q.0) ≡ true = as_numbers o.source.engine.committed o.target.engine.committed (committed_end p.0) (committed_end q.0) p.2.engine.committed q.2.engine.committed o.older in (
+      let low : nat_lt (closed_end_of p.0) (committed_end q.0) ≡ true = as_numbers o.source.engine.closed o.target.engine.committed (closed_end_of p.0) (committed_end q.0) p.2.engine.closed q.2.engine.committed o.older in (
         copy_is options r p.0 q.0 p.1 q.1
             ∙ (standby_goes to q.0.state.world.leading _ (sym q.2.engine.leading ∙ o.idle)
-            ∙ (ap (λ b. cond b (Err (faults.OlderImage (pos (committed_end p.0)) (pos (committed_end q.0)))) (then_load options r p.0)) low
-            ∙ (ap (λ z. Err (faults.OlderImage z (pos (committed_end q.0)))) (sym p.2.engine.committed) ∙ ap (λ z. Err (faults.OlderImage o.source.engine.committed z)) (sym q.2.engine.committed)))),
+            ∙ (ap (λ b. cond b (Err (faults.OlderImage (pos (closed_end_of p.0)) (pos (committed_end q.0)))) (then_load options r p.0)) low
+            ∙ (ap (λ z. Err (faults.OlderImage z (pos (committed_end q.0)))) (sym p.2.engine.closed) ∙ ap (λ z. Err (faults.OlderImage o.source.engine.closed z)) (sym q.2.engine.committed)))),
         st,
       ))
     where
@@ -86,8 +87,8 @@ module _ (from to : ℕ) where
   Brings (events.Load bytes) end image = image_of bytes ≡ Ok (pos end, image)
   Brings other end image = ⊥
 
-  brings : (options : Options) (r : Run) (f : RunNode) (node : Node) (event : Event) → GivesImage node event → StandsForNode options r.list f node → Brings event (committed_end f) (image_of_end f.state)
-  brings options r f node (events.Load bytes) g s = g options r.list f s ∙ ap (λ z. Ok (z, image_of_end f.state)) s.engine.committed
+  brings : (options : Options) (r : Run) (f : RunNode) (node : Node) (event : Event) → GivesImage node event → StandsForNode options r.list f node → Brings event (closed_end_of f) (image_of_closed f.state)
+  brings options r f node (events.Load bytes) g s = g options r.list f s ∙ ap (λ z. Ok (z, image_of_closed f.state)) s.engine.closed
   brings options r f node (events.Batch bytes) g s = absurd g
   brings options r f node (events.Lead epoch next now) g s = absurd g
   brings options r f node (events.Commit epoch end) g s = absurd g
@@ -127,17 +128,19 @@ module _ (from to : ℕ) where
         let n = p2.0 in
         let still : n.state.world.leading ≡ None = set_leading r.nodes from to f (after_event options f events.Image) n t p.1 q.1 p2.1 refl ∙ none in
         let idle : n.waiting ≡ [] = set_waiting r.nodes from to f (after_event options f events.Image) n t p.1 q.1 p2.1 (λ w. none_imaged options f w) ((is_node options r to t reached q.1).idle none) in
-        let place = committed_end f in
-        let image = image_of_end f.state in
+        let place = closed_end_of f in
+        let image = image_of_closed f.state in
+        let closed : place ≡ committed_end f = all_closed f.state.world.log (is_node options r from f reached p.1).core.means (committed_end f) in
+        let below = subst (λ end. AreBelow r.list end may.source.fed) (sym closed) p.2.fed in
         let got = loaded options next n loads.before loads.after event end place image fed between.shared.told.items after.shared.told.items loads.loads
-        (brings options r f gives.before event gives.images.gives s_before) p2.2 still idle (may.end_is ∙ p.2.engine.committed) (subst (AreBelow r.list place) (sym may.fed_is) p.2.fed) in
+        (brings options r f gives.before event gives.images.gives s_before) p2.2 still idle (may.end_is ∙ p.2.engine.closed) (subst (AreBelow r.list place) (sym may.fed_is) below) in
         let m = after_arrival n (take_image n.state (pos place, image)) in
         let last = put_node next to m in
-        let later : nat_lt (committed_end f) (committed_end t) ≡ false = as_numbers may.source.engine.committed may.target.engine.committed (committed_end f) (committed_end t) p.2.engine.committed q.2.engine.committed may.later in (
+        let later : nat_lt place (committed_end t) ≡ false = as_numbers may.source.engine.closed may.target.engine.committed place (committed_end t) p.2.engine.closed q.2.engine.committed may.later in (
           last,
           copy_is options r f t p.1 q.1
               ∙ (standby_goes to t.state.world.leading _ none
-              ∙ (ap (λ b. cond b (Err (faults.OlderImage (pos (committed_end f)) (pos (committed_end t)))) (then_load options r f)) later
+              ∙ (ap (λ b. cond b (Err (faults.OlderImage (pos place) (pos (committed_end t)))) (then_load options r f)) later
               ∙ at_there next to n (λ (x : RunNode). Ok (put_node next to (after_arrival x (take_image x.state (pos place, image))))) p2.1)),
           put_stands options next between st1 last to loads.after after
               (record {

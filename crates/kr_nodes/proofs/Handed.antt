@@ -22,11 +22,11 @@ goes_on node first now next h h' h'' output some hands tells is = record {
 none_told : (e : Core) → outputs_left e ≡ [] → told_left e ≡ []
 none_told e none =
     let d = drained e none in
-    ap (λ (os : List Output). map told_alone (os ++ option_to_list e.refusal) ++ told_answers e.leading e.committed e.held) d.none_given
-    ∙ (ap (λ (o : Option Output). map told_alone (option_to_list o) ++ told_answers e.leading e.committed e.held) d.none_refused
-    ∙ none_due (due_writes e.leading e.committed e.held) d.none_due)
+    ap (λ (os : List Output). map told_alone (os ++ option_to_list e.refusal) ++ told_answers e.leading e.closed e.held) d.none_given
+    ∙ (ap (λ (o : Option Output). map told_alone (option_to_list o) ++ told_answers e.leading e.closed e.held) d.none_refused
+    ∙ none_due (due_writes e.leading e.closed e.held) d.none_due)
   where
-    none_due : (ws : List Write) → map (due_reply e.committed) ws ≡ [] → map (told_reply e.committed) ws ≡ []
+    none_due : (ws : List Write) → map (due_reply e.closed) ws ≡ [] → map (told_reply e.closed) ws ≡ []
     none_due [] is = refl
     none_due (w ∷ ws) is = absurd cc
 

@@ -17,7 +17,7 @@ use Rattle.kr_model.specs.declared.writes.Write.{Write}
 use Rattle.kr_model.specs.Engine.{Core, outputs_left, told_left, writes_in_order}
 use Rattle.kr_model.specs.Events.{at_time_of, next_number}
 use Rattle.kr_model.specs.Outputs.{answers, answers_now, appends, if_accepted, images, due_reply, is_open_in, outputs_by, told_alone as output_alone, told_answers, told_reply, writes_of}
-use Rattle.kr_model.specs.World.{State, World}
+use Rattle.kr_model.specs.World.{State, World, closed_of}
 use Rattle.kr_model.proofs.LogEntries.{nothing_left}
 use Rattle.law_nodes.specs.NodeEvents.{writes_in}
 use Rattle.law_nodes.specs.Nodes.{RunNode, Waiting, after_by, batches_of, tells_by, told_due, told_now, waits_in, writes_with}
@@ -59,7 +59,7 @@ module _ (options : Options) (k : ℕ) (n : RunNode) (event : Event) where
   held_then q = writes_in n.waiting ++ if_accepted q (writes_of options at event)
 
   abbrev pub told_then : Result State Reason → List Output_
-  told_then q = map output_alone (outputs_first q) ++ told_answers (world_then q).leading (pos (world_then q).committed) (held_then q)
+  told_then q = map output_alone (outputs_first q) ++ told_answers (world_then q).leading (pos (closed_of (world_then q))) (held_then q)
 
   -- ---- writes that wait
 
@@ -102,7 +102,7 @@ module _ (options : Options) (k : ℕ) (n : RunNode) (event : Event) where
       let h1 : Handed = record h0 { unsettled = map list_batch n.unsettled ++ map list_batch bs } in
       let t1 = told ++ map told_as (flat_map (told_now k) N) in
       let h2 : Handed = record h1 { told = t1 } in
-      let due = told_answers s.world.leading (pos s.world.committed) (held_then (Ok s)) in
+      let due = told_answers s.world.leading (pos (closed_of s.world)) (held_then (Ok s)) in
       let appended_is : alone k h0 A ≡ h1 =
       ap (λ (os : List Output). alone k h0 os) (takes options k n event).batches ∙ all_appended k h0 bs counted in
       let split : after_outputs k h0 (map output_alone ((A ++ I) ++ N)) ≡ h2 =
@@ -114,7 +114,7 @@ module _ (options : Options) (k : ℕ) (n : RunNode) (event : Event) where
       ∙ now_replied k options at event h1)))) in
       fold-append (after_output k) h0 (map output_alone ((A ++ I) ++ N)) due
       ∙ (ap (λ (h : Handed). after_outputs k h due) split
-      ∙ (ap (λ (l : List Write). after_outputs k h2 (told_answers s.world.leading (pos s.world.committed) l)) (sym writes_are)
+      ∙ (ap (λ (l : List Write). after_outputs k h2 (told_answers s.world.leading (pos (closed_of s.world)) l)) (sym writes_are)
       ∙ (all_due k s.world ws h2 (ap writes_in_order writes_are ∙ ordered) (sym items_are)
       ∙ (ap (λ l. record { unsettled = l; waiting = items_in (filter (waits_in s.world) ws); told = t1 ++ map told_as (told_due k s.world ws) }) (sym (map-append list_batch n.unsettled bs))
       ∙ ap (λ l. record { unsettled = map list_batch (n.unsettled ++ bs); waiting = items_in (filter (waits_in s.world) ws); told = l })
@@ -124,9 +124,9 @@ module _ (options : Options) (k : ℕ) (n : RunNode) (event : Event) where
   handed_err : (reason : Reason) (told : List ToldReply) → filter (is_open_in n.state.world) (writes_in n.waiting) ≡ writes_in n.waiting
       → after_outputs k (before (Err reason) told) (told_then (Err reason)) ≡ after (Err reason) told
   handed_err reason told undue =
-      let none : told_answers n.state.world.leading (pos n.state.world.committed) (writes_in n.waiting ++ []) ≡ [] =
-      ap (λ (l : List Write). told_answers n.state.world.leading (pos n.state.world.committed) l) (append-nil (writes_in n.waiting))
-      ∙ ap (λ (l : List Write). map (told_reply (pos n.state.world.committed)) l) (none_open n.state.world (writes_in n.waiting) undue) in
+      let none : told_answers n.state.world.leading (pos (closed_of n.state.world)) (writes_in n.waiting ++ []) ≡ [] =
+      ap (λ (l : List Write). told_answers n.state.world.leading (pos (closed_of n.state.world)) l) (append-nil (writes_in n.waiting))
+      ∙ ap (λ (l : List Write). map (told_reply (pos (closed_of n.state.world))) l) (none_open n.state.world (writes_in n.waiting) undue) in
       ap (λ (os : List Output_). after_outputs k (before (Err reason) told) (output_alone (given.Refused (next_number at.world.count) reason) ∷ os)) none
       ∙ (ap (λ l. record { unsettled = map list_batch n.unsettled; waiting = l; told = told }) (append-nil (items_in n.waiting))
       ∙ ap (λ l. record { unsettled = map list_batch n.unsettled; waiting = items_in n.waiting; told = l }) (sym (append-nil told)))
@@ -146,24 +146,24 @@ module _ (options : Options) (k : ℕ) (n : RunNode) (event : Event) where
 
   -- what is left of it to be told
   pub left_is : (e : Core) (q : Result State Reason) → outputs_left e ≡ outputs_by options at (writes_in n.waiting) event q → e.held ≡ held_then q
-      → e.leading ≡ (world_then q).leading → e.committed ≡ pos (world_then q).committed → filter (is_open_in n.state.world) (writes_in n.waiting) ≡ writes_in n.waiting
+      → e.leading ≡ (world_then q).leading → e.closed ≡ pos (closed_of (world_then q)) → filter (is_open_in n.state.world) (writes_in n.waiting) ≡ writes_in n.waiting
       → told_left e ≡ told_then q
-  left_is e q left held leading committed undue =
-      let same : answers e.leading e.committed e.held ≡ answers (world_then q).leading (pos (world_then q).committed) (held_then q) =
-      ap (λ (o : Option ℤ). answers o e.committed e.held) leading
-      ∙ (ap (λ c. answers (world_then q).leading c e.held) committed ∙ ap (λ (l : List Write). answers (world_then q).leading (pos (world_then q).committed) l) held) in
+  left_is e q left held leading closed undue =
+      let same : answers e.leading e.closed e.held ≡ answers (world_then q).leading (pos (closed_of (world_then q))) (held_then q) =
+      ap (λ (o : Option ℤ). answers o e.closed e.held) leading
+      ∙ (ap (λ c. answers (world_then q).leading c e.held) closed ∙ ap (λ (l : List Write). answers (world_then q).leading (pos (closed_of (world_then q))) l) held) in
       let first : e.given ++ option_to_list e.refusal ≡ outputs_first q =
-      append_cancel_right (e.given ++ option_to_list e.refusal) (outputs_first q) (answers (world_then q).leading (pos (world_then q).committed) (held_then q))
+      append_cancel_right (e.given ++ option_to_list e.refusal) (outputs_first q) (answers (world_then q).leading (pos (closed_of (world_then q))) (held_then q))
       (ap (λ (os : List Output). (e.given ++ option_to_list e.refusal) ++ os) (sym same) ∙ (left ∙ outputs_split q undue)) in
-      ap (λ (os : List Output). map output_alone os ++ told_answers e.leading e.committed e.held) first
-      ∙ (ap (λ (o : Option ℤ). map output_alone (outputs_first q) ++ told_answers o e.committed e.held) leading
-      ∙ (ap (λ c. map output_alone (outputs_first q) ++ told_answers (world_then q).leading c e.held) committed
-      ∙ ap (λ (l : List Write). map output_alone (outputs_first q) ++ told_answers (world_then q).leading (pos (world_then q).committed) l) held))
+      ap (λ (os : List Output). map output_alone os ++ told_answers e.leading e.closed e.held) first
+      ∙ (ap (λ (o : Option ℤ). map output_alone (outputs_first q) ++ told_answers o e.closed e.held) leading
+      ∙ (ap (λ c. map output_alone (outputs_first q) ++ told_answers (world_then q).leading c e.held) closed
+      ∙ ap (λ (l : List Write). map output_alone (outputs_first q) ++ told_answers (world_then q).leading (pos (closed_of (world_then q))) l) held))
     where
       outputs_split : (r : Result State Reason) → filter (is_open_in n.state.world) (writes_in n.waiting) ≡ writes_in n.waiting
-          → outputs_by options at (writes_in n.waiting) event r ≡ outputs_first r ++ answers (world_then r).leading (pos (world_then r).committed) (held_then r)
+          → outputs_by options at (writes_in n.waiting) event r ≡ outputs_first r ++ answers (world_then r).leading (pos (closed_of (world_then r))) (held_then r)
       outputs_split (Ok s) undue = refl
       outputs_split (Err reason) undue =
           ap (λ (os : List Output). given.Refused (next_number at.world.count) reason ∷ os)
-          (sym (ap (λ (l : List Write). answers n.state.world.leading (pos n.state.world.committed) l) (append-nil (writes_in n.waiting))
-          ∙ ap (λ (l : List Write). map (due_reply (pos n.state.world.committed)) l) (none_open n.state.world (writes_in n.waiting) undue)))
+          (sym (ap (λ (l : List Write). answers n.state.world.leading (pos (closed_of n.state.world)) l) (append-nil (writes_in n.waiting))
+          ∙ ap (λ (l : List Write). map (due_reply (pos (closed_of n.state.world))) l) (none_open n.state.world (writes_in n.waiting) undue)))

@@ -17,7 +17,7 @@ use Rattle.kr_defs.specs.declared.record.Item.{Item}
 use Rattle.kr_model.specs.declared.writes.Told.{Told as Output_}
 use Rattle.kr_model.specs.Engine.{writes_in_order}
 use Rattle.kr_model.specs.Outputs.{answers_now, images, is_open, replies_now, told_alone as output_alone, told_answers, told_reply}
-use Rattle.kr_model.specs.World.{State, World}
+use Rattle.kr_model.specs.World.{State, World, closed_of}
 use Rattle.kr_model.proofs.Queues.{first_is_due, none_is_due, order_behind}
 use Rattle.law_nodes.specs.NodeEvents.{writes_in}
 use Rattle.law_nodes.specs.Nodes.{Waiting, told_due, told_now, told_without_place, told_write, waits_in}
@@ -94,39 +94,39 @@ module _ (k : ℕ) where
       ]
 
   -- where no reply is due, all wait
-  none_due : (w : World) (ws : List Waiting) → told_answers w.leading (pos w.committed) (writes_in ws) ≡ []
+  none_due : (w : World) (ws : List Waiting) → told_answers w.leading (pos (closed_of w)) (writes_in ws) ≡ []
       → (filter (waits_in w) ws ≡ ws) × (filter (λ x. not (waits_in w x)) ws ≡ [])
   none_due w [] none = (refl, refl)
   none_due w (x ∷ ws) none =
-      (elim (waits_in w x) as (λ b. map (told_reply (pos w.committed)) (cond (not b) (x.write ∷ filter (λ y. not (is_open w.leading (pos w.committed) y)) (writes_in ws)) (filter (λ y. not (is_open w.leading (pos w.committed) y)) (writes_in ws))) ≡ []
+      (elim (waits_in w x) as (λ b. map (told_reply (pos (closed_of w))) (cond (not b) (x.write ∷ filter (λ y. not (is_open w.leading (pos (closed_of w)) y)) (writes_in ws)) (filter (λ y. not (is_open w.leading (pos (closed_of w)) y)) (writes_in ws))) ≡ []
       → (cond b (x ∷ filter (waits_in w) ws) (filter (waits_in w) ws) ≡ x ∷ ws) × (cond (not b) (x ∷ filter (λ y. not (waits_in w y)) ws) (filter (λ y. not (waits_in w y)) ws) ≡ [])) [
         | true ↦ λ is. let more = none_due w ws is in (ap (λ (l : List Waiting). x ∷ l) more.0, more.1)
         | false ↦ λ is. absurd cc
       ]) none
 
   pub all_due : (w : World) (ws : List Waiting) (h : Handed) → writes_in_order (writes_in ws) ≡ true → h.waiting ≡ items_in ws
-      → after_outputs k h (told_answers w.leading (pos w.committed) (writes_in ws)) ≡ record h { waiting = items_in (filter (waits_in w) ws); told = h.told ++ map told_as (told_due k w ws) }
+      → after_outputs k h (told_answers w.leading (pos (closed_of w)) (writes_in ws)) ≡ record h { waiting = items_in (filter (waits_in w) ws); told = h.told ++ map told_as (told_due k w ws) }
   all_due w [] h ordered is = ap (λ l. record h { waiting = l }) is ∙ ap (λ l. record h { waiting = []; told = l }) (sym (append-nil h.told))
-  all_due w (x ∷ ws) h ordered is = by_first (waits_in w x) refl (all_due w ws (record h { waiting = items_in ws; told = h.told ++ told_as (told_write k w.committed x) ∷ [] }) (order_behind x.write (writes_in ws) ordered) refl)
+  all_due w (x ∷ ws) h ordered is = by_first (waits_in w x) refl (all_due w ws (record h { waiting = items_in ws; told = h.told ++ told_as (told_write k (closed_of w) x) ∷ [] }) (order_behind x.write (writes_in ws) ordered) refl)
     where
       by_first : (b : Bool) → waits_in w x ≡ b
-          → after_outputs k (record h { waiting = items_in ws; told = h.told ++ told_as (told_write k w.committed x) ∷ [] }) (told_answers w.leading (pos w.committed) (writes_in ws))
-          ≡ record h { waiting = items_in (filter (waits_in w) ws); told = (h.told ++ told_as (told_write k w.committed x) ∷ []) ++ map told_as (told_due k w ws) }
-          → after_outputs k h (told_answers w.leading (pos w.committed) (writes_in (x ∷ ws))) ≡ record h { waiting = items_in (filter (waits_in w) (x ∷ ws)); told = h.told ++ map told_as (told_due k w (x ∷ ws)) }
+          → after_outputs k (record h { waiting = items_in ws; told = h.told ++ told_as (told_write k (closed_of w) x) ∷ [] }) (told_answers w.leading (pos (closed_of w)) (writes_in ws))
+          ≡ record h { waiting = items_in (filter (waits_in w) ws); told = (h.told ++ told_as (told_write k (closed_of w) x) ∷ []) ++ map told_as (told_due k w ws) }
+          → after_outputs k h (told_answers w.leading (pos (closed_of w)) (writes_in (x ∷ ws))) ≡ record h { waiting = items_in (filter (waits_in w) (x ∷ ws)); told = h.told ++ map told_as (told_due k w (x ∷ ws)) }
       by_first true waits rest =
-          let none = none_is_due w.leading (pos w.committed) x.write (writes_in ws) waits ordered in
+          let none = none_is_due w.leading (pos (closed_of w)) x.write (writes_in ws) waits ordered in
           let all = none_due w (x ∷ ws) none in
           ap (λ (os : List Output_). after_outputs k h os) none
           ∙ (ap (λ l. record h { waiting = l }) (is ∙ ap (λ (l : List Waiting). items_in l) (sym all.0))
-          ∙ ap (λ l. record h { waiting = items_in (filter (waits_in w) (x ∷ ws)); told = l }) (sym (append-nil h.told) ∙ ap (λ (l : List Waiting). h.told ++ map told_as (map (told_write k w.committed) l)) (sym all.1)))
+          ∙ ap (λ l. record h { waiting = items_in (filter (waits_in w) (x ∷ ws)); told = l }) (sym (append-nil h.told) ∙ ap (λ (l : List Waiting). h.told ++ map told_as (map (told_write k (closed_of w)) l)) (sym all.1)))
       by_first false due rest =
-          let one = told_as (told_write k w.committed x) in
-          let first = one_due w.committed x h (items_in ws) is in
-          ap (λ (os : List Output_). after_outputs k h os) (first_is_due w.leading (pos w.committed) x.write (writes_in ws) due)
-          ∙ (ap (λ (g : Handed). after_outputs k g (told_answers w.leading (pos w.committed) (writes_in ws))) first
+          let one = told_as (told_write k (closed_of w) x) in
+          let first = one_due (closed_of w) x h (items_in ws) is in
+          ap (λ (os : List Output_). after_outputs k h os) (first_is_due w.leading (pos (closed_of w)) x.write (writes_in ws) due)
+          ∙ (ap (λ (g : Handed). after_outputs k g (told_answers w.leading (pos (closed_of w)) (writes_in ws))) first
           ∙ (rest
           ∙ (ap (λ l. record h { waiting = items_in (filter (waits_in w) ws); told = l }) (append_assoc h.told (one ∷ []) (map told_as (told_due k w ws)))
           ∙ ap (λ b. record h {
             waiting = items_in (cond b (x ∷ filter (waits_in w) ws) (filter (waits_in w) ws));
-            told = h.told ++ map told_as (map (told_write k w.committed) (cond (not b) (x ∷ filter (λ y. not (waits_in w y)) ws) (filter (λ y. not (waits_in w y)) ws)));
+            told = h.told ++ map told_as (map (told_write k (closed_of w)) (cond (not b) (x ∷ filter (λ y. not (waits_in w y)) ws) (filter (λ y. not (waits_in w y)) ws)));
           }) (sym due))))

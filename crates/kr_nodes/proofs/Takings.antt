@@ -61,9 +61,9 @@ filter_again p (x ∷ xs) = again_by p x xs (filter_again p xs) (p x) refl
 
 pub undue : (e : Core) (s : State) (writes : List Write) → IsEngine e s writes → filter (is_open_in s.world) writes ≡ writes
 undue e s writes k =
-    let same : filter (is_open e.leading e.committed) writes ≡ filter (is_open_in s.world) writes =
-    ap (λ (o : Option ℤ). filter (is_open o e.committed) writes) k.leading ∙ ap (λ c. filter (is_open s.world.leading c) writes) k.committed in
-    sym same ∙ (ap (λ (l : List Write). filter (is_open e.leading e.committed) l) (sym k.waits) ∙ (filter_again (is_open e.leading e.committed) e.held ∙ k.waits))
+    let same : filter (is_open e.leading e.closed) writes ≡ filter (is_open_in s.world) writes =
+    ap (λ (o : Option ℤ). filter (is_open o e.closed) writes) k.leading ∙ ap (λ c. filter (is_open s.world.leading c) writes) k.closed in
+    sym same ∙ (ap (λ (l : List Write). filter (is_open e.leading e.closed) l) (sym k.waits) ∙ (filter_again (is_open e.leading e.closed) e.held ∙ k.waits))
 
 -- ---- what stands of a node but for places
 
@@ -113,7 +113,7 @@ module _ (options : Options) (k : ℕ) (n : RunNode) (event : Event) (before aft
   left =
       left_is options k n event t.stepped q
       (t.step.outputs n.state (writes_in n.waiting) stands.engine ∙ ap (λ (o : Options). outputs_of o n.state (writes_in n.waiting) event) stands.options_are)
-      held_is stepped_stands.leading stepped_stands.committed undue_now
+      held_is stepped_stands.leading stepped_stands.closed undue_now
 
   by_reads : (r : Result State Reason) → ReadBy options n event r → handings.CountedBy options k n event r
   by_reads (Ok s) reads = all_counted (batches_of options (at_time_of n.state event) event) reads

@@ -1,4 +1,4 @@
-//! The image of one node's end, which another one loads.
+//! The image of one node's closed end, which another one loads.
 
 ghost use Rattle.std.specs.Prelude.{◌≡◌, ◌<◌, IfOk, MatchResult, OnOk, length};
 ghost use Rattle.kr_store.specs.declared.places.At.TheVariants as places;
@@ -24,12 +24,12 @@ fn at_epoch(place: &i64) -> At
 }
 
 impl Node {
-    // The image at its end, as an event that brings it.
+    // The image at its closed end, as an event that brings it.
     fn image_event(&self) -> Result<Event, NoMemory>
         requires { IsIdleNode self.now }
         ensures { IfOk result (λ event. IsImageEvent self.now.engine event) }
     {
-        let end = self.engine.committed();
+        let end = self.engine.closed();
         let at = at_epoch(&end);
         let mut bytes = Vec::new(self.pending.alloc);
         match write(self.pending.alloc, self.engine.store(), at, end, &mut bytes) {
@@ -40,7 +40,7 @@ impl Node {
         }
     }
 
-    // The image at its end is asked for, which another node is to load.
+    // That image is asked for, which another node is to load.
     fn image<L: Ledger>(
         &mut self,
         number: u32,
@@ -77,7 +77,7 @@ impl Node {
     }
 }
 
-/// The one node may load the image of the other's end: the end, and how many batches of the list are below it.
+/// The one node may load the image of the other's closed end: that end, and how many batches of the list are below it.
 pub(crate) fn check_copy(nodes: &[Node], from: u32, to: u32) -> Result<(i64, usize), MoveFault>
     requires from { from < length nodes.now }
     requires to { to < length nodes.now }
@@ -87,7 +87,7 @@ pub(crate) fn check_copy(nodes: &[Node], from: u32, to: u32) -> Result<(i64, usi
     let source = &nodes[from as usize];
     let target = &nodes[to as usize];
     target.check_standby(to)?;
-    let offset = source.engine.committed();
+    let offset = source.engine.closed();
     let end = target.engine.committed();
     if offset < end {
         return Err(MoveFault::OlderImage { offset, end });
@@ -95,7 +95,7 @@ pub(crate) fn check_copy(nodes: &[Node], from: u32, to: u32) -> Result<(i64, usi
     Ok((offset, source.fed))
 }
 
-/// The image at a node's end, by its number.
+/// The image at a node's closed end, by its number.
 pub(crate) fn image_at<L: Ledger>(
     nodes: &mut Vec<Node>,
     number: u32,

@@ -1,3 +1,4 @@
+pub mod GroupedElections
 pub mod LeaderlessElections
 pub mod OngoingRows
 pub mod RequestKeys

@@ -98,9 +98,10 @@ module _ (before after : Core) (client percent : ℕ) (now : ℤ) (s : State) (w
         let written : image_at (log_with s.world.log (as_items decided.records)) (tip (log_with s.world.log (as_items decided.records))) ≡ Ok after.images.tip =
         subst (λ log. image_at log (tip log) ≡ Ok after.images.tip) (batch_written s.world (as_items decided.records)) then in
         let means : apply_records (image_of_tip s) decided.records ≡ Ok decided.image = meanings before.options timed.basis.time (heard timed.basis) (image_of_tip s) (pos (tip_of s)) request in
-        ok_is decided.image after.images.tip (apply_records (image_of_tip s) decided.records) means
-        ((ap (λ image. apply_records image decided.records) image_is ∙ (sym (as_records before.images.tip decided.records)
-        ∙ (sym (written_at_tip s.world.log (as_items decided.records) before.images.tip stands.present) ∙ written))))
+        let applies : apply_all before.images.tip (as_items decided.records) ≡ Ok decided.image =
+        as_records before.images.tip decided.records ∙ (ap (λ image. apply_records image decided.records) (sym image_is) ∙ means) in
+        ok_is decided.image after.images.tip (image_at (log_with s.world.log (as_items decided.records)) (tip (log_with s.world.log (as_items decided.records))))
+        (written_at_tip s.world.log (as_items decided.records) before.images.tip decided.image stands.present applies) written
 
     all_balanced : RecordsHaveMeanings → IsStep before after event → Balances before.images.tip after.images.tip percent
     all_balanced meanings step = subst (λ (image : Image). Balances before.images.tip image percent) (image_then meanings step) balanced_so.0

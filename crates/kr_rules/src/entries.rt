@@ -4,7 +4,7 @@ ghost use Rattle.std.specs.Prelude.{◌≡◌, ◌≤◌, ◌+◌, ℤ, ◌≤�
 ghost use Rattle.kr_defs.specs.declared.limits.TheConstants.{PLACES_END as places_end};
 ghost use Rattle.kr_calls.specs.Deciding as deciding;
 ghost use Rattle.kr_calls.specs.Deciding.{weights};
-ghost use Rattle.kr_store.specs.Images.{last_kept, last_image};
+ghost use Rattle.kr_store.specs.Images.{IsSettled, last_kept, last_image};
 ghost use Rattle.kr_rules.specs.Costs.{cost, draft_cost};
 ghost use Rattle.kr_rules.specs.Progress.{work_at, place_of, Leads};
 ghost use Rattle.kr_rules.specs.Refusals.{IfError};
@@ -52,6 +52,8 @@ pub(crate) fn one<E, A: Drop, R: Rule<E, A>, S: Store, L: Ledger>(
     ensures leads { OnOk result (Leads (S.images store.new) work.new.records) }
     ensures kept { (S.images store.new).kept ≡ (S.images store.old).kept }
     ensures calls { (S.images store.new).kept_made ≡ (S.images store.old).kept_made }
+    ensures begins { (S.images store.new).kept_begun ≡ (S.images store.old).kept_begun }
+    ensures settled { IsSettled (S.images store.old) → IsSettled (S.images store.new) }
     ensures start { OnOk result (work.new.start ≡ work.old.start) }
     ensures made { CallsStayWithin result (S.images store.old)
         (S.images store.new) work.old.records work.new.records }
@@ -90,6 +92,8 @@ pub fn over_entries<E, A: Drop, R: Rule<E, A>, S: Store, L: Ledger>(
     ensures leads { OnOk result (Leads (S.images store.new) work.new.records) }
     ensures kept { (S.images store.new).kept ≡ (S.images store.old).kept }
     ensures calls { (S.images store.new).kept_made ≡ (S.images store.old).kept_made }
+    ensures begins { (S.images store.new).kept_begun ≡ (S.images store.old).kept_begun }
+    ensures settled { IsSettled (S.images store.old) → IsSettled (S.images store.new) }
     ensures start { OnOk result (work.new.start ≡ work.old.start) }
     ensures made { CallsStayWithin result (S.images store.old)
         (S.images store.new) work.old.records work.new.records }
@@ -121,6 +125,8 @@ pub fn decide_one<E, A: Drop, R: Rule<E, A>, S: Store, L: Ledger>(
         (R.rule rule.now) place entry.now (S.images store.old) (S.images store.new) d) }
     ensures kept { (S.images store.new).kept ≡ (S.images store.old).kept }
     ensures calls { (S.images store.new).kept_made ≡ (S.images store.old).kept_made }
+    ensures begins { (S.images store.new).kept_begun ≡ (S.images store.old).kept_begun }
+    ensures settled { IsSettled (S.images store.old) → IsSettled (S.images store.new) }
     ensures made { IfOk result (λ d. (S.images store.new).made ≤
         (S.images store.old).made + weights (S.images store.old).tip d.0) }
     ensures own { CostsAtMost result (draft_cost (S.images store.old).tip
@@ -150,6 +156,8 @@ pub fn decide_each<E, A: Drop, R: Rule<E, A>, S: Store, L: Ledger>(
         (R.rule rule.now) place entries.now (S.images store.old) (S.images store.new) d.0) }
     ensures kept { (S.images store.new).kept ≡ (S.images store.old).kept }
     ensures calls { (S.images store.new).kept_made ≡ (S.images store.old).kept_made }
+    ensures begins { (S.images store.new).kept_begun ≡ (S.images store.old).kept_begun }
+    ensures settled { IsSettled (S.images store.old) → IsSettled (S.images store.new) }
     ensures made { IfOk result (λ d. (S.images store.new).made ≤
         (S.images store.old).made + weights (S.images store.old).tip d.0) }
     ensures own { CostsAtMost result (cost (R.refusal rule.now) (R.rule rule.now)
@@ -181,6 +189,8 @@ pub fn decide_or_validate<E, A: Drop, R: Rule<E, A>, S: Store, L: Ledger>(
         (S.images store.new) d.0) }
     ensures kept { (S.images store.new).kept ≡ (S.images store.old).kept }
     ensures calls { (S.images store.new).kept_made ≡ (S.images store.old).kept_made }
+    ensures begins { (S.images store.new).kept_begun ≡ (S.images store.old).kept_begun }
+    ensures settled { IsSettled (S.images store.old) → IsSettled (S.images store.new) }
     ensures made { IfOk result (λ d. (S.images store.new).made ≤
         (S.images store.old).made + weights (S.images store.old).tip d.0) }
     ensures own { validate_only ≡ false → CostsAtMost result (cost (R.refusal rule.now)

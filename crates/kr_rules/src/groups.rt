@@ -3,7 +3,7 @@
 ghost use Rattle.std.specs.Prelude.{◌≡◌, ◌≤◌, ◌+◌, ◌≤ℤ◌, Ok, Some, IfOk, OnOk, IsSome};
 ghost use Rattle.kr_defs.specs.declared.limits.TheConstants.{PLACES_END as places_end};
 ghost use Rattle.kr_calls.specs.Deciding.{weights};
-ghost use Rattle.kr_store.specs.Images.{last_kept, last_image};
+ghost use Rattle.kr_store.specs.Images.{IsSettled, last_kept, last_image};
 ghost use Rattle.kr_rules.specs.Costs.{cost, group_cost};
 ghost use Rattle.kr_rules.specs.Progress.{work_at, Leads};
 ghost use Rattle.kr_rules.specs.Decisions.{AnswersGroup, AnswersGroups, AnswersNextGroups, CostsAtMost, DecidesGroups, GoesThrough, GoesThroughGroups, CallsStayWithin, begun};
@@ -71,6 +71,8 @@ fn over_group<
     ensures leads { OnOk result (Leads (S.images store.new) work.new.records) }
     ensures kept { (S.images store.new).kept ≡ (S.images store.old).kept }
     ensures calls { (S.images store.new).kept_made ≡ (S.images store.old).kept_made }
+    ensures begins { (S.images store.new).kept_begun ≡ (S.images store.old).kept_begun }
+    ensures settled { IsSettled (S.images store.old) → IsSettled (S.images store.new) }
     ensures start { OnOk result (work.new.start ≡ work.old.start) }
     ensures made { CallsStayWithin result (S.images store.old)
         (S.images store.new) work.old.records work.new.records }
@@ -112,6 +114,8 @@ pub fn over_groups<
     ensures leads { OnOk result (Leads (S.images store.new) work.new.records) }
     ensures kept { (S.images store.new).kept ≡ (S.images store.old).kept }
     ensures calls { (S.images store.new).kept_made ≡ (S.images store.old).kept_made }
+    ensures begins { (S.images store.new).kept_begun ≡ (S.images store.old).kept_begun }
+    ensures settled { IsSettled (S.images store.old) → IsSettled (S.images store.new) }
     ensures start { OnOk result (work.new.start ≡ work.old.start) }
     ensures made { CallsStayWithin result (S.images store.old)
         (S.images store.new) work.old.records work.new.records }
@@ -155,6 +159,8 @@ pub fn decide_groups<
         (S.images store.new) d.0) }
     ensures kept { (S.images store.new).kept ≡ (S.images store.old).kept }
     ensures calls { (S.images store.new).kept_made ≡ (S.images store.old).kept_made }
+    ensures begins { (S.images store.new).kept_begun ≡ (S.images store.old).kept_begun }
+    ensures settled { IsSettled (S.images store.old) → IsSettled (S.images store.new) }
     ensures made { IfOk result (λ d. (S.images store.new).made ≤
         (S.images store.old).made + weights (S.images store.old).tip d.0) }
     ensures own { CostsAtMost result

@@ -5,6 +5,7 @@ ghost use Rattle.kr_defs.specs.Image.{Image};
 ghost use Rattle.kr_sessions.specs.declared.context.Context.{Context as Given};
 ghost use Rattle.kr_calls.specs.declared.calls.Reply.{Reply};
 ghost use Rattle.kr_calls.specs.Deciding.{Work, weights};
+ghost use Rattle.kr_store.specs.Images.{IsSettled};
 ghost use Rattle.kr_rules.specs.Handlers.{IsAtPlace};
 
 use kr_base::{NoMemory, Steps};
@@ -35,5 +36,7 @@ pub trait Handler<Q> {
         ensures made { IfOk result (λ effect. (S.images store.new).made ≤ (S.images store.old).made + weights (S.images store.old).tip effect.records) }
         ensures kept { (S.images store.new).kept ≡ (S.images store.old).kept }
         ensures calls { (S.images store.new).kept_made ≡ (S.images store.old).kept_made }
+        ensures begins { (S.images store.new).kept_begun ≡ (S.images store.old).kept_begun }
+        ensures settled { IsSettled (S.images store.old) → IsSettled (S.images store.new) }
         ensures later { steps.old ≤ steps.new };
 }

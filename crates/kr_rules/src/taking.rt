@@ -10,7 +10,7 @@ ghost use Rattle.kr_defs.specs.Weight.{weight};
 ghost use Rattle.kr_defs.specs.declared.record.Item.TheVariants as items;
 ghost use Rattle.kr_calls.specs.Deciding as deciding;
 ghost use Rattle.kr_calls.specs.Deciding.{apply_records, is_within_limits, weights, taken};
-ghost use Rattle.kr_store.specs.Images.{last_kept};
+ghost use Rattle.kr_store.specs.Images.{IsSettled, last_kept};
 ghost use Rattle.kr_rules.specs.Costs.{is_undone};
 ghost use Rattle.kr_rules.specs.Progress.{work_at, base_of, Leads, IsApplied, Stands, Reaches, TakesRecords, IsCounted};
 ghost use Rattle.kr_rules.specs.Decisions.{CallsStayWithin};
@@ -85,6 +85,8 @@ fn apply_one<S: Store, L: Ledger>(
         (S.images store.new) value.now applied) }
     ensures kept { (S.images store.new).kept ≡ (S.images store.old).kept }
     ensures calls { (S.images store.new).kept_made ≡ (S.images store.old).kept_made }
+    ensures begins { (S.images store.new).kept_begun ≡ (S.images store.old).kept_begun }
+    ensures settled { IsSettled (S.images store.old) → IsSettled (S.images store.new) }
     ensures made { OnOk result ((S.images store.new).made ≤
         (S.images store.old).made + weight (S.images store.old).tip (items.Record value.now)) }
     ensures counted { OnOk result (steps.new ≡ steps.old + 1) }
@@ -112,6 +114,8 @@ fn apply_all<S: Store, L: Ledger>(
     ensures few { OnOk result (steps.new ≤ steps.old + length records.now) }
     ensures kept { (S.images store.new).kept ≡ (S.images store.old).kept }
     ensures calls { (S.images store.new).kept_made ≡ (S.images store.old).kept_made }
+    ensures begins { (S.images store.new).kept_begun ≡ (S.images store.old).kept_begun }
+    ensures settled { IsSettled (S.images store.old) → IsSettled (S.images store.new) }
     ensures made { OnOk result ((S.images store.new).made ≤
         (S.images store.old).made + weights (S.images store.old).tip records.now) }
     ensures later { steps.old ≤ steps.new }
@@ -141,6 +145,8 @@ fn apply_each<S: Store, L: Ledger>(
     ensures few { OnOk result (steps.new ≤ steps.old + length records.now) }
     ensures kept { (S.images store.new).kept ≡ (S.images store.old).kept }
     ensures calls { (S.images store.new).kept_made ≡ (S.images store.old).kept_made }
+    ensures begins { (S.images store.new).kept_begun ≡ (S.images store.old).kept_begun }
+    ensures settled { IsSettled (S.images store.old) → IsSettled (S.images store.new) }
     ensures made { OnOk result ((S.images store.new).made ≤
         (S.images store.old).made + weights (S.images store.old).tip records.now) }
     ensures later { steps.old ≤ steps.new }
@@ -172,6 +178,8 @@ fn undo<S: Store, L: Ledger>(
         Ok image → OnOk result ((S.images store.new).tip ≡ image) }
     ensures kept { (S.images store.new).kept ≡ (S.images store.old).kept }
     ensures calls { (S.images store.new).kept_made ≡ (S.images store.old).kept_made }
+    ensures begins { (S.images store.new).kept_begun ≡ (S.images store.old).kept_begun }
+    ensures settled { IsSettled (S.images store.old) → IsSettled (S.images store.new) }
     ensures made { OnOk result ((S.images store.new).made ≤
         weights (base_of (S.images store.old)) records.now) }
     ensures later { steps.old ≤ steps.new }
@@ -277,6 +285,8 @@ pub fn take<S: Store, L: Ledger>(
     ensures leads { OnOk result (Leads (S.images store.new) work.new.records) }
     ensures kept { (S.images store.new).kept ≡ (S.images store.old).kept }
     ensures calls { (S.images store.new).kept_made ≡ (S.images store.old).kept_made }
+    ensures begins { (S.images store.new).kept_begun ≡ (S.images store.old).kept_begun }
+    ensures settled { IsSettled (S.images store.old) → IsSettled (S.images store.new) }
     ensures start { OnOk result (work.new.start ≡ work.old.start) }
     ensures made { CallsStayWithin result (S.images store.old)
         (S.images store.new) work.old.records work.new.records }

@@ -37,9 +37,9 @@ outputs_due end (w ∷ writes) = ap (λ (l : List Output). due_reply end w ∷ l
 
 pub outputs_told : (e : Core) → map (λ (t : Told). t.output) (told_left e) ≡ outputs_left e
 outputs_told e =
-    map-append (λ (t : Told). t.output) (map told_alone (e.given ++ option_to_list e.refusal)) (told_answers e.leading e.committed e.held)
-    ∙ (ap (λ (l : List Output). l ++ map (λ (t : Told). t.output) (told_answers e.leading e.committed e.held)) (outputs_alone (e.given ++ option_to_list e.refusal))
-    ∙ ap (λ (l : List Output). (e.given ++ option_to_list e.refusal) ++ l) (outputs_due e.committed (due_writes e.leading e.committed e.held)))
+    map-append (λ (t : Told). t.output) (map told_alone (e.given ++ option_to_list e.refusal)) (told_answers e.leading e.closed e.held)
+    ∙ (ap (λ (l : List Output). l ++ map (λ (t : Told). t.output) (told_answers e.leading e.closed e.held)) (outputs_alone (e.given ++ option_to_list e.refusal))
+    ∙ ap (λ (l : List Output). (e.given ++ option_to_list e.refusal) ++ l) (outputs_due e.closed (due_writes e.leading e.closed e.held)))
 
 none_told : (told : List Told) → map (λ (t : Told). t.output) told ≡ [] → told ≡ []
 none_told [] is = refl

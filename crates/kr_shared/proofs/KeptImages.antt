@@ -1,6 +1,6 @@
 -- What the lists of a seat have at a place that is kept.
 use Rattle.std.proofs.Common.{◌≡◌, ◌∙◌, ℕ, ℤ, pos, ◌+◌, ◌<◌, ◌≤◌, ◌-◌, ◌^◌, min, Bool, true, false, cond, ◌&&◌, ◌||◌, not, List, [], ◌∷◌, ◌++◌, filter, fold, map, refl, sym, ap, subst, inl, inr, arith}
-use Rattle.std.specs.Prelude.{◌+ℤ◌, ◌≤ℤ◌, IsTrue, int_lt, Result, Ok, Err}
+use Rattle.std.specs.Prelude.{◌+ℤ◌, ◌≤ℤ◌, IsTrue, int_lt, unsigned_abs, Result, Ok, Err}
 use Rattle.std.specs.List.{AllByRecursion, list_any}
 use Rattle.std.specs.Ordering.{int_eq}
 use Rattle.std.proofs.lemmas.Bool.Decides.{Decides-int_eq}
@@ -9,15 +9,15 @@ use Rattle.std.proofs.lemmas.List.Sums.{fold-append}
 use Rattle.kr_base.specs.Causes.{raised}
 use Rattle.kr_defs.specs.declared.ill.Ill.{Ill}
 use Rattle.kr_defs.specs.declared.limits.TheConstants.{PLACES_END}
-use Rattle.kr_defs.specs.Apply.{apply}
 use Rattle.kr_defs.specs.Image.{Image, IsValid, empty}
+use Rattle.kr_defs.specs.LogStates.{IsValidState, LogState, apply_at, closed}
+use Rattle.kr_defs.proofs.StateLogs.{kept_at_place}
 use Rattle.kr_defs.proofs.Tests.{Gives}
-use Rattle.kr_defs.proofs.Validity as validity
 use Rattle.kr_calls.specs.declared.events.Entry.{Entry}
 use Rattle.kr_calls.specs.declared.events.Entry.TheVariants as entries
 use Rattle.kr_calls.specs.declared.pins.Pin.{Pin}
 use Rattle.kr_calls.specs.Deciding.{apply_records}
-use Rattle.kr_calls.specs.SeatList.{PinnedLog, Reached, image_below, is_below, is_kept_in, is_load, is_pinned, is_place_kept, is_same_pin, loads_of, loads_with, nothing_pinned, nothing_reached, pinned_log, pinned_with, pins_in, pins_with, reached_with, with_image, with_item, with_load, with_pin, without_pin}
+use Rattle.kr_calls.specs.SeatList.{PinnedLog, Reached, image_below, is_below, is_kept_in, is_load, is_pinned, is_place_kept, is_same_pin, loads_of, loads_with, nothing_pinned, nothing_reached, pinned_log, pinned_with, pins_in, pins_with, reached_with, with_image, with_item, with_load, with_pin, with_outcome, without_pin}
 use Rattle.kr_calls.specs.SeatListLaws.{KeptImagesStay}
 use Rattle.law_safety.proofs.SafeRequests.{valid_after}
 use Rattle.kr_view.specs.CopiesRule.{GoesOn}
@@ -25,26 +25,34 @@ use Rattle.kr_shared.specs.ImageWrites.{StillKept}
 
 -- ---- they are valid
 
-module _ (valid_empty : IsValid empty) where
-  with_valid : (r : Reached) (end : ℤ) (result : Result Image Ill) (b : Bool) → IsValid r.image → Gives IsValid result → IsValid (cond b (with_image r end result) r).image
-  with_valid r end (Ok image) true valid gives = gives image refl
-  with_valid r end (Err cause) true valid gives = valid
-  with_valid r end result false valid gives = valid
+valid_closed : (image : Image) → IsValid image → IsValidState (closed image)
+valid_closed image valid = record { image = valid; below = λ opened is. absurd cc }
 
-  one_valid : (r : Reached) (e : Entry) → IsValid r.image → IsValid (reached_with r e).image
-  one_valid r (entries.Item place item) valid = with_valid r (place +ℤ pos 1) (apply r.image item) (int_eq place r.end && int_lt place PLACES_END) valid (validity.kept r.image valid item)
-  one_valid r (entries.Load offset records) valid = with_valid r offset (apply_records empty records) (not (int_lt offset r.end) && int_lt offset PLACES_END) valid (valid_after empty records valid_empty)
+state_valid : (r : Reached) (end : ℤ) (result : Result LogState Ill) (b : Bool) → IsValidState r.state → Gives IsValidState result → IsValidState (cond b (with_outcome r end result) r).state
+state_valid r end (Ok state) true valid gives = gives state refl
+state_valid r end (Err cause) true valid gives = valid
+state_valid r end result false valid gives = valid
+
+load_valid : (r : Reached) (offset : ℤ) (result : Result Image Ill) (b : Bool) → IsValidState r.state → Gives IsValid result → IsValidState (cond b (with_image r offset result) r).state
+load_valid r offset (Ok image) true valid gives = valid_closed image (gives image refl)
+load_valid r offset (Err cause) true valid gives = valid
+load_valid r offset result false valid gives = valid
+
+module _ (valid_empty : IsValid empty) where
+  one_valid : (r : Reached) (e : Entry) → IsValidState r.state → IsValidState (reached_with r e).state
+  one_valid r (entries.Item place item) valid = state_valid r (place +ℤ pos 1) (apply_at r.state (unsigned_abs place) item) (int_eq place r.end && int_lt place PLACES_END) valid (kept_at_place r.state (unsigned_abs place) item valid)
+  one_valid r (entries.Load offset records) valid = load_valid r offset (apply_records empty records) (not (int_lt offset r.end) && int_lt offset PLACES_END) valid (valid_after empty records valid_empty)
   one_valid r (entries.Pin pin) valid = valid
   one_valid r (entries.Unpin pin) valid = valid
   one_valid r (entries.Answer answer) valid = valid
   one_valid r (entries.Stop number) valid = valid
 
-  all_valid : (r : Reached) (es : List Entry) → IsValid r.image → IsValid (fold reached_with r es).image
+  all_valid : (r : Reached) (es : List Entry) → IsValidState r.state → IsValidState (fold reached_with r es).state
   all_valid r [] valid = valid
   all_valid r (e ∷ es) valid = all_valid (reached_with r e) es (one_valid r e valid)
 
   pub image_valid : (place : ℤ) (list : List Entry) → IsValid (image_below place list)
-  image_valid place list = all_valid nothing_reached (filter (is_below place) list) valid_empty
+  image_valid place list = (all_valid nothing_reached (filter (is_below place) list) (valid_closed empty valid_empty)).image
 
 -- ---- their places aren't negative
 
@@ -57,8 +65,8 @@ next_natural place end is natural = let same : place ≡ end = (Decides-int_eq p
 later_natural : (offset end : ℤ) → int_lt offset end ≡ false → Natural end → Natural offset
 later_natural offset end low natural = grind (arith, ints)
 
-item_natural : (r : Reached) (place : ℤ) (result : Result Image Ill) (at low : Bool) → int_eq place r.end ≡ at → Natural r.end → Natural (cond (at && low) (with_image r (place +ℤ pos 1) result) r).end
-item_natural r place (Ok image) true true is natural = next_natural place r.end is natural
+item_natural : (r : Reached) (place : ℤ) (result : Result LogState Ill) (at low : Bool) → int_eq place r.end ≡ at → Natural r.end → Natural (cond (at && low) (with_outcome r (place +ℤ pos 1) result) r).end
+item_natural r place (Ok state) true true is natural = next_natural place r.end is natural
 item_natural r place (Err cause) true true is natural = natural
 item_natural r place result true false is natural = natural
 item_natural r place result false low is natural = natural
@@ -70,7 +78,7 @@ load_natural r offset result false false is natural = natural
 load_natural r offset result true low is natural = natural
 
 end_natural : (r : Reached) (e : Entry) → Natural r.end → Natural (reached_with r e).end
-end_natural r (entries.Item place item) natural = item_natural r place (apply r.image item) (int_eq place r.end) (int_lt place PLACES_END) refl natural
+end_natural r (entries.Item place item) natural = item_natural r place (apply_at r.state (unsigned_abs place) item) (int_eq place r.end) (int_lt place PLACES_END) refl natural
 end_natural r (entries.Load offset records) natural = load_natural r offset (apply_records empty records) (int_lt offset r.end) (int_lt offset PLACES_END) refl natural
 end_natural r (entries.Pin pin) natural = natural
 end_natural r (entries.Unpin pin) natural = natural
@@ -88,10 +96,10 @@ fewer_natural : (q : Pin × Image → Bool) (pinned : List (Pin × Image)) → N
 fewer_natural q [] all = tt
 fewer_natural q (p ∷ ps) all = elim (q p) as (λ b. NaturalPins (cond b (p ∷ filter q ps) (filter q ps))) [ true ↦ (all.0, fewer_natural q ps all.1) | false ↦ fewer_natural q ps all.1 ]
 
-pin_natural : (r : Reached) (pinned : List (Pin × Image)) (pin : Pin) (here new : Bool) → int_eq pin.place r.end ≡ here → Natural r.end → NaturalPins pinned → NaturalPins (cond (here && new) (pinned ++ (pin, r.image) ∷ []) pinned)
+pin_natural : (r : Reached) (pinned : List (Pin × Image)) (pin : Pin) (here new : Bool) → int_eq pin.place r.end ≡ here → Natural r.end → NaturalPins pinned → NaturalPins (cond (here && new) (pinned ++ (pin, r.state.image) ∷ []) pinned)
 pin_natural r pinned pin true true is natural all =
     let same : pin.place ≡ r.end = (Decides-int_eq pin.place r.end).0 is in
-    push_natural pinned (pin, r.image) all (subst Natural (sym same) natural)
+    push_natural pinned (pin, r.state.image) all (subst Natural (sym same) natural)
 pin_natural r pinned pin true false is natural all = all
 pin_natural r pinned pin false new is natural all = all
 

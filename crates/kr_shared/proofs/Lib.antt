@@ -1,6 +1,8 @@
 pub mod Answered
 pub mod Appending
+pub mod ClosedShelves
 pub mod Desks
+pub mod Dropped
 pub mod Ends
 pub mod Fronts
 pub mod Giving

@@ -6,22 +6,21 @@ use Rattle.kr_calls.specs.declared.answers.Answered.{Answered}
 use Rattle.kr_calls.specs.declared.events.Entry.{Entry}
 use Rattle.kr_calls.specs.declared.events.Entry.TheVariants as entries
 use Rattle.kr_calls.specs.RightAnswers.{AreRightAfter, IsRightAs, IsRightEntry, IsTo}
-use Rattle.kr_calls.specs.SeatList.{Reached, end_of, item_entries}
+use Rattle.kr_calls.specs.SeatList.{Reached, end_of}
 use Rattle.kr_defs.specs.declared.options.Options.{Options}
 use Rattle.kr_view.specs.Shelves.{Shelf, next_at, shown_at, with_staged}
 use Rattle.kr_view.specs.Staged.{staged_above, staged_below}
 use Rattle.kr_model.specs.declared.writes.Write.{Write}
 use Rattle.kr_model.specs.Engine.{Core}
-use Rattle.kr_model.specs.Entries.{items_from}
-use Rattle.kr_model.specs.World.{State}
+use Rattle.kr_model.specs.World.{State, closed_of}
 use Rattle.law_published_log.specs.Following.{AreNotes}
 use Rattle.law_published_log.proofs.Shown.{shown_logs_go_on}
-use Rattle.kr_shared.specs.Desks.{IsCaughtUp, DeskState, DeskStands, cut_if, ready, settled}
+use Rattle.kr_shared.specs.Desks.{IsCaughtUp, DeskState, DeskStands, ready, settled}
 use Rattle.kr_shared.specs.Lines.{HasLineRoom, LineView}
 use Rattle.kr_shared.specs.Standing.{StandsForSome, Standing}
 use Rattle.kr_shared.specs.Turns.{Notes}
 use Rattle.kr_shared.specs.Works.{IsBareNote, DeskView, resting}
-use Rattle.kr_shared.proofs.Published.{all_above, nothing_below}
+use Rattle.kr_shared.proofs.Settling.{caught_below}
 
 noted_one : (list : List Entry) (s : Shelf) (e : Entry) → IsBareNote list e → with_staged s e ≡ record s { notes = s.notes ++ e ∷ [] }
 noted_one list s (entries.Item place item) bare = absurd bare
@@ -48,14 +47,11 @@ is_right o list (entries.Answer answer) bare = subst (λ (q : Option Answered). 
 is_right o list (entries.Stop number) bare = tt
 
 module _ (old : DeskView) (e : Entry) (bare : IsBareNote old.shelf.list e) (s : State) (writes : List Write) (k : Standing old s writes) where
-  abbrev items : List Entry
-  items = item_entries (pos s.world.committed) (items_from s.world.log s.world.committed)
-
   abbrev at : ℤ
-  at = old.engine.committed
+  at = old.engine.closed
 
   abbrev still : Shelf
-  still = resting old.shelf.options old.shelf.list items
+  still = resting old.shelf.options old.shelf.list
 
   abbrev put : Shelf → Shelf
   put h = record h { notes = h.notes ++ e ∷ [] }
@@ -63,24 +59,14 @@ module _ (old : DeskView) (e : Entry) (bare : IsBareNote old.shelf.list e) (s : 
   abbrev more : List Entry
   more = old.shelf.list ++ e ∷ []
 
-  none_below : staged_below at items ≡ []
-  none_below = ap (λ z. staged_below z items) k.engine.committed ∙ nothing_below s.world.committed (items_from s.world.log s.world.committed)
-
-  all_left : staged_above at items ≡ items
-  all_left = ap (λ z. staged_above z items) k.engine.committed ∙ all_above s.world.committed (items_from s.world.log s.world.committed)
-
   next_is : next_at at (put old.shelf) ≡ e ∷ []
-  next_is = ap (λ (h : Shelf). next_at at (put h)) k.rests ∙ ap (λ (l : List Entry). l ++ e ∷ []) none_below
+  next_is = ap (λ (h : Shelf). next_at at (put h)) k.rests
 
   may_show : AreRightAfter old.shelf.options old.shelf.list (next_at at (put old.shelf))
   may_show = subst (λ (l : List Entry). AreRightAfter old.shelf.options old.shelf.list l) (sym next_is) (is_right old.shelf.options old.shelf.list e bare, tt)
 
   shown_is : shown_at at (put old.shelf) ≡ record old.shelf { list = more }
-  shown_is =
-      ap (λ (h : Shelf). shown_at at (put h)) k.rests
-      ∙ (ap (λ (l : List Entry). record (record still { items = staged_above at items }) { list = old.shelf.list ++ (l ++ e ∷ []) }) none_below
-      ∙ (ap (λ (l : List Entry). record (record still { items = l }) { list = more }) all_left
-      ∙ sym (ap (λ (h : Shelf). record h { list = more }) k.rests)))
+  shown_is = ap (λ (h : Shelf). shown_at at (put h)) k.rests ∙ sym (ap (λ (h : Shelf). record h { list = more }) k.rests)
 
   stands_still : Standing (record old { shelf = record old.shelf { list = more } }) s writes
   stands_still = record {
@@ -88,7 +74,8 @@ module _ (old : DeskView) (e : Entry) (bare : IsBareNote old.shelf.list e) (s : 
     none = k.none;
     options = k.options;
     rests = ap (λ (h : Shelf). record h { list = more }) k.rests;
-    shows = shown_logs_go_on.notes s.world.log s.world.committed old.shelf.list (e ∷ []) k.shows (is_note old.shelf.list e bare);
+    unstaged = k.unstaged;
+    shows = shown_logs_go_on.notes s.world.log (closed_of s.world) old.shelf.list (e ∷ []) k.shows (is_note old.shelf.list e bare);
     waits = k.waits;
   }
 
@@ -100,8 +87,8 @@ module _ (old new : DeskState) (rests : IsCaughtUp old) (sf : DeskStands old) (e
 
   all_staged : ready new ≡ record shelf { notes = shelf.notes ++ e ∷ [] }
   all_staged =
-      (λ i. fold with_staged (fold with_staged (is i).shelf (is i).unstaged) (is i).line.due)
-      ∙ ((λ i. fold with_staged (fold with_staged old.shelf (rests.unstaged i)) (due i))
+      (λ i. fold with_staged (fold with_staged (is i).shelf (staged_below (is i).engine.closed ((is i).unstaged ++ (is i).fresh))) (is i).line.due)
+      ∙ ((λ i. fold with_staged (fold with_staged old.shelf (caught_below old rests i)) (due i))
       ∙ ((λ i. fold with_staged old.shelf (rests.seated.due i ++ e ∷ []))
       ∙ (ap (λ (h : Shelf). with_staged h e) rests.rests ∙ noted_one shelf.list shelf e bare)))
 
@@ -110,7 +97,7 @@ module _ (old new : DeskState) (rests : IsCaughtUp old) (sf : DeskStands old) (e
 
   settled_is : settled new ≡ noted
   settled_is =
-      (λ i. record { shelf = cut_if ((ap (λ (k : DeskState). k.cut) is ∙ rests.cut) i) (shown_at (is i).engine.committed (all_staged i)); engine = (is i).engine; waiting = ((ap (λ (k : DeskState). k.line.waiting) is) ∙ waiting) i })
+      (λ i. record { shelf = shown_at (is i).engine.closed (all_staged i); unstaged = staged_above (is i).engine.closed ((is i).unstaged ++ (is i).fresh); engine = (is i).engine; waiting = ((ap (λ (k : DeskState). k.line.waiting) is) ∙ waiting) i })
       ∙ ap (λ (h : Shelf). record (settled old) { shelf = h }) (shown_is (settled old) e bare sf.stands.state sf.stands.writes sf.stands.stands)
 
   pub notes_so : Notes (settled old) (settled new) e
@@ -123,11 +110,11 @@ module _ (old new : DeskState) (rests : IsCaughtUp old) (sf : DeskStands old) (e
   noted_for room = record {
     stands = record { state = sf.stands.state; writes = sf.stands.writes; stands = notes_so.stands sf.stands.state sf.stands.writes sf.stands.stands };
     right =
-        subst (λ (x : Shelf × Core). AreRightAfter x.0.options x.0.list (next_at x.1.committed x.0)) (λ i. (sym all_staged i, sym (ap (λ (k : DeskState). k.engine) is) i))
+        subst (λ (x : Shelf × Core). AreRightAfter x.0.options x.0.list (next_at x.1.closed x.0)) (λ i. (sym all_staged i, sym (ap (λ (k : DeskState). k.engine) is) i))
         (may_show (settled old) e bare sf.stands.state sf.stands.writes sf.stands.stands);
     room = subst (λ (k : DeskState). HasLineRoom k.line) (sym is) room;
   }
 
--- the published list ends where the log is committed
-pub committed_is_end : (w : DeskView) → StandsForSome w → w.engine.committed ≡ end_of w.shelf.list
-committed_is_end w k = k.stands.engine.committed ∙ sym (ap (λ (r : Reached). r.end) k.stands.shows.whole)
+-- the published list ends at the closed end
+pub closed_is_end : (w : DeskView) → StandsForSome w → w.engine.closed ≡ end_of w.shelf.list
+closed_is_end w k = k.stands.engine.closed ∙ sym (ap (λ (r : Reached). r.end) k.stands.shows.whole)

@@ -1,8 +1,8 @@
--- What is published of a log that went on, and what stays staged.
+-- What is published of a log that went on, and what is kept behind the closed end.
 use Rattle.std.proofs.Common.{◌≡◌, ◌∙◌, sym, subst, ℕ, zero, suc, ℤ, pos, Bool, true, false, cond, ◌+◌, ◌-◌, ◌≤◌, ◌<◌, List, [], ◌∷◌, ◌++◌, take, drop, length, refl, ap, arith}
-use Rattle.std.specs.Prelude.{◌+ℤ◌, unsigned_abs, Ok}
+use Rattle.std.specs.Prelude.{◌+ℤ◌, filter, not, unsigned_abs, Ok}
 use Rattle.std.proofs.lemmas.Int.{ints}
-use Rattle.std.proofs.lemmas.List.{append-nil, drop-append-le, drop-drop, drop_all, length-drop, length-take}
+use Rattle.std.proofs.lemmas.List.{append_assoc, append-nil, drop-append-le, drop-drop, drop-take, drop_all, length-drop, length-take, take_all}
 use Rattle.kr_calls.specs.declared.events.Entry.{Entry}
 use Rattle.kr_calls.specs.declared.events.Entry.TheVariants as entries
 use Rattle.kr_calls.specs.Deciding.{apply_records}
@@ -20,6 +20,7 @@ use Rattle.kr_model.proofs.LogEntries.{placed_both}
 use Rattle.kr_model.proofs.Places.{is_below as is_lower, isnt_below}
 use Rattle.law_published_log.specs.Following.{Shows}
 use Rattle.law_published_log.specs.FollowingLaws.{log_from}
+use Rattle.law_published_log.proofs.Lists.{some_below}
 use Rattle.law_published_log.proofs.Shown.{shown_logs_go_on}
 
 -- ---- items below a place, and the others
@@ -61,6 +62,22 @@ above_so (suc n) from (x ∷ xs) =
     ∙ (ap (λ m. staged_above (pos m) (item_entries (pos (suc from)) xs)) e
     ∙ (above_so n (suc from) xs ∙ ap (λ m. item_entries (pos m) (drop n xs)) (sym e))))
 
+-- where all items are below the place, they come before the rest
+pub below_rest : (place from : ℕ) (items : List Item) (rest : List Entry) → (from + length items) ≤ place → staged_below (pos place) (item_entries (pos from) items ++ rest) ≡ item_entries (pos from) items ++ staged_below (pos place) rest
+below_rest place from [] rest low = refl
+below_rest place from (x ∷ xs) rest low =
+    ap (λ b. cond b (entries.Item (pos from) x ∷ staged_below (pos place) (item_entries (pos from +ℤ pos 1) xs ++ rest)) []) (is_lower from place (omega (arith, low)))
+    ∙ ap (λ (l : List Entry). entries.Item (pos from) x ∷ l)
+    (ap (λ p. staged_below (pos place) (item_entries p xs ++ rest)) (next from)
+    ∙ (below_rest place (suc from) xs rest (omega (arith, low)) ∙ ap (λ p. item_entries p xs ++ staged_below (pos place) rest) (sym (next from))))
+
+pub above_rest : (place from : ℕ) (items : List Item) (rest : List Entry) → (from + length items) ≤ place → staged_above (pos place) (item_entries (pos from) items ++ rest) ≡ staged_above (pos place) rest
+above_rest place from [] rest low = refl
+above_rest place from (x ∷ xs) rest low =
+    let later = item_entries (pos from +ℤ pos 1) xs ++ rest in
+    ap (λ b. cond b (staged_above (pos place) later) (entries.Item (pos from) x ∷ later)) (is_lower from place (omega (arith, low)))
+    ∙ (ap (λ p. staged_above (pos place) (item_entries p xs ++ rest)) (next from) ∙ above_rest place (suc from) xs rest (omega (arith, low)))
+
 -- ---- what is published
 
 abbrev no_items : List Item
@@ -80,11 +97,11 @@ pub items_logged : (place : ℤ) (items : List Item) → AreLogged (item_entries
 items_logged place [] = tt
 items_logged place (x ∷ xs) = items_logged (place +ℤ pos 1) xs
 
--- the list with what is below the end shows the log, and the rest of the log stays staged
-pub record Publishes (log : Log) (end : ℕ) (list staged : List Entry) : Type 0 where
-  pub shows : Shows log end (list ++ staged_below (pos end) staged)
-  pub rest : staged_above (pos end) staged ≡ item_entries (pos end) (items_from log end)
-  pub logged : AreLogged staged
+-- the list with what is added below the end shows the log, and the rest of the log is kept
+pub record Publishes (log : Log) (end : ℕ) (list added : List Entry) : Type 0 where
+  pub shows : Shows log end (list ++ staged_below (pos end) added)
+  pub rest : staged_above (pos end) added ≡ item_entries (pos end) (items_from log end)
+  pub logged : AreLogged added
 
 staged_longer : (log : Log) (end : ℕ) (xs : List Item) → log.offset ≤ end → end ≤ tip log
     → item_entries (pos end) (items_from log end) ++ item_entries (pos (tip log)) xs ≡ item_entries (pos end) (items_from (log_with log xs) end)
@@ -118,19 +135,69 @@ longer_publishes log end later list xs image means few started low up within sho
       logged = items_logged (pos end) ys;
     })
 
-pub shorter_publishes : (log : Log) (end : ℕ) (list : List Entry) → Shows log end list → Publishes (cut log end) end list []
-shorter_publishes log end list shows = record {
-  shows = subst (Shows (cut log end) end) (sym (append-nil list)) (shown_logs_go_on.cut log end list shows);
-  rest = ap (λ (l : List Item). item_entries (pos end) l) (sym (drop_all (end - log.offset) (take (end - log.offset) log.items) (let l = length-take (end - log.offset) log.items in omega (arith, l))));
-  logged = tt;
-}
+-- a log that is cut at a later place
+module _ (log : Log) (end later : ℕ) (list : List Entry) (started : log.offset ≤ end) (up : end ≤ later) (low : end ≤ tip log) where
+  abbrev shorter : Log
+  shorter = cut log later
 
-pub load_publishes : (log : Log) (end offset : ℕ) (list : List Entry) (image : Image) (records : List Record) → end ≤ offset → offset < unsigned_abs PLACES_END → apply_records empty records ≡ Ok image → Shows log end list
-    → Publishes (log_from offset image) offset list (entries.Load (pos offset) records ∷ [])
-load_publishes log end offset list image records up few makes shows =
-    let load = entries.Load (pos offset) records in
-    let here : is_below (pos offset) load ≡ true = ap Rattle.std.specs.Prelude.not (isnt_below offset offset (omega arith)) in record {
-      shows = subst (λ (l : List Entry). Shows (log_from offset image) offset (list ++ l)) (sym (ap (λ b. cond b (load ∷ []) []) here)) (shown_logs_go_on.loaded log end offset list image records up few makes shows);
-      rest = ap (λ b. cond b [] (load ∷ [])) here ∙ ap (λ (l : List Item). item_entries (pos offset) l) (sym (drop_all (offset - offset) no_items (omega arith)));
-      logged = tt;
-    }
+  abbrev between : List Item
+  between = take (later - end) (items_from log end)
+
+  cut_left : items_from shorter end ≡ between
+  cut_left =
+      ap (λ n. drop (end - log.offset) (take n log.items)) (let e : later - log.offset ≡ (end - log.offset) + (later - end) = omega (arith, up, started) in e)
+      ∙ drop-take (end - log.offset) (later - end) log.items
+
+  still_shows : Shows log end list → Shows shorter end list
+  still_shows shows = shown_logs_go_on.cut log end later list up shows
+
+  pub left_is : filter (is_below (pos later)) (item_entries (pos end) (items_from log end)) ++ [] ≡ item_entries (pos end) (items_from shorter end)
+  left_is =
+      append-nil (filter (is_below (pos later)) (item_entries (pos end) (items_from log end)))
+      ∙ (ap (λ m. filter (is_below (pos m)) (item_entries (pos end) (items_from log end))) (let e : later ≡ end + (later - end) = omega (arith, up) in e)
+      ∙ (some_below (later - end) end (items_from log end) ∙ ap (λ (l : List Item). item_entries (pos end) l) (sym cut_left)))
+
+  pub shorter_publishes : Shows log end list → Publishes shorter end list (filter (is_below (pos later)) (item_entries (pos end) (items_from log end)) ++ [])
+  shorter_publishes shows =
+      let left = items_from shorter end in
+      subst (λ (l : List Entry). Publishes shorter end list l) (sym left_is) (record {
+        shows = subst (λ (l : List Entry). Shows shorter end l) (sym (ap (λ (l : List Entry). list ++ l) (nothing_below end left) ∙ append-nil list)) (still_shows shows);
+        rest = all_above end left;
+        logged = items_logged (pos end) left;
+      })
+
+both_logged : (xs ys : List Entry) → AreLogged xs → AreLogged ys → AreLogged (xs ++ ys)
+both_logged [] ys a b = b
+both_logged (entries.Item place item ∷ xs) ys a b = both_logged xs ys a b
+both_logged (entries.Load offset records ∷ xs) ys a b = both_logged xs ys a b
+both_logged (entries.Pin pin ∷ xs) ys a b = absurd a
+both_logged (entries.Unpin pin ∷ xs) ys a b = absurd a
+both_logged (entries.Answer answer ∷ xs) ys a b = absurd a
+both_logged (entries.Stop number ∷ xs) ys a b = absurd a
+
+-- an image in place of all, behind all that was kept
+module _ (log : Log) (end offset : ℕ) (list : List Entry) (image : Image) (records : List Record) (before : Image) where
+  abbrev load : Entry
+  load = entries.Load (pos offset) records
+
+  pub load_publishes : image_at log (tip log) ≡ Ok before → tip log ≤ unsigned_abs PLACES_END → log.offset ≤ end → end ≤ tip log → tip log ≤ offset → offset < unsigned_abs PLACES_END → apply_records empty records ≡ Ok image → Shows log end list
+      → Publishes (log_from offset image) offset list (item_entries (pos end) (items_from log end) ++ load ∷ [])
+  load_publishes means low_tip started low up few makes shows =
+      let left = items_from log end in
+      let long = length-drop (end - log.offset) log.items in
+      let all : (end + length left) ≤ offset = omega (arith, long, started, low, up) in
+      let here : is_below (pos offset) load ≡ true = ap not (isnt_below offset offset (omega arith)) in
+      let whole : Shows log (tip log) (list ++ item_entries (pos end) left) =
+      subst (λ (l : List Item). Shows log (tip log) (list ++ item_entries (pos end) l)) (take_all (tip log - end) left (omega (arith, long, started, low)))
+      (shown_logs_go_on.further log end (tip log) list before means low_tip started low (omega arith) shows) in
+      let below : staged_below (pos offset) (item_entries (pos end) left ++ load ∷ []) ≡ item_entries (pos end) left ++ load ∷ [] =
+      below_rest offset end left (load ∷ []) all ∙ ap (λ b. item_entries (pos end) left ++ cond b (load ∷ []) []) here in record {
+        shows =
+            subst (λ (l : List Entry). Shows (log_from offset image) offset l)
+            (append_assoc list (item_entries (pos end) left) (load ∷ []) ∙ ap (λ (l : List Entry). list ++ l) (sym below))
+            (shown_logs_go_on.loaded log (tip log) offset (list ++ item_entries (pos end) left) image records up few makes whole);
+        rest =
+            above_rest offset end left (load ∷ []) all
+            ∙ (ap (λ b. cond b [] (load ∷ [])) here ∙ ap (λ (l : List Item). item_entries (pos offset) l) (sym (drop_all (offset - offset) no_items (omega arith))));
+        logged = both_logged (item_entries (pos end) left) (load ∷ []) (items_logged (pos end) left) tt;
+      }

@@ -21,6 +21,7 @@ use Rattle.kr_model.specs.declared.writes.Told.{Told}
 use Rattle.kr_model.specs.declared.writes.Write.{Write}
 use Rattle.kr_model.specs.Engine.{writes_in_order}
 use Rattle.kr_model.specs.Events.{with_next_number}
+use Rattle.kr_model.specs.Lead.{giving_up, taking_over}
 use Rattle.kr_model.specs.Outputs.{answers, answers_in, answers_now, append, append_fencings, append_for, appends, due_reply, if_accepted, images, is_open, outputs_by, outputs_then, told_answers, told_reply, writes_of}
 use Rattle.kr_model.specs.Request.{decision, is_decided}
 use Rattle.kr_model.specs.Tick.{fence, fencing_of, lapsed_contacts}
@@ -126,7 +127,7 @@ ask_silent options s (asks.Call call) = if_silent (is_decided s.world (asks.Call
 ask_silent options s (asks.Bare correlation fault) = tt
 
 pub appends_silent : (options : Options) (s : State) (event : Event) → AreSilent (appends options s event)
-appends_silent options s (events.Lead epoch next now) = tt
+appends_silent options s (events.Lead epoch next now) = append_silent (taking_over s epoch next) (giving_up (taking_over s epoch next).world)
 appends_silent options s (events.Commit epoch end) = tt
 appends_silent options s (events.Lost epoch) = tt
 appends_silent options s (events.Batch bytes) = tt

@@ -42,7 +42,7 @@ line_send = view_send _ _ _ _ _ (declared_send line_type (heap.Deque-send asked_
 
 desk_send : IsSend desk_row
 desk_send =
-    view_send _ _ _ _ _ (declared_send desk_type (search sendable depth 20, (publisher_send, (engine_send, (line_send, (heap.Deque-send entry_row entry.the_send, (search sendable depth 20, tt)))))))
+    view_send _ _ _ _ _ (declared_send desk_type (search sendable depth 20, (publisher_send, (engine_send, (line_send, (heap.Deque-send entry_row entry.the_send, (heap.Deque-send entry_row entry.the_send, tt)))))))
 
 -- the queue with its pass, the bells, the desk, and what the last turns left
 pub worker_send : IsSend worker_row

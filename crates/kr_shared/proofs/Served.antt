@@ -14,6 +14,7 @@ use Rattle.kr_defs.specs.Image.{Image}
 use Rattle.kr_defs.specs.Log.{Log, tip}
 use Rattle.kr_defs.specs.Records.{records_of}
 use Rattle.kr_defs.proofs.OwnRecords.{own_records}
+use Rattle.kr_defs.proofs.StateLogs.{closed_end_between}
 use Rattle.kr_queue.specs.Jobs.{is_link_event}
 use Rattle.kr_view.specs.Shelves.{Shelf}
 use Rattle.kr_view.specs.Staged.{staged_below}
@@ -23,7 +24,7 @@ use Rattle.kr_model.specs.Engine.{Core, IsEngine, writes_in_order}
 use Rattle.kr_model.specs.Entries.{items_from, log_entries}
 use Rattle.kr_model.specs.Events.{at_time_of, happens, outcome}
 use Rattle.kr_model.specs.Outputs.{answers, answers_in, answers_now, if_accepted, is_open, is_open_in, new_writes, outputs_of, told_alone, told_answers, waiting_after, writes_of}
-use Rattle.kr_model.specs.World.{State, World, log_with, tip_of}
+use Rattle.kr_model.specs.World.{State, World, closed_of, log_with, tip_of}
 use Rattle.kr_model.proofs.DueWrites.{event_goes}
 use Rattle.kr_model.proofs.KeptImages.{none_open, not_higher}
 use Rattle.kr_model.proofs.Logs.{as_records}
@@ -35,11 +36,11 @@ use Rattle.kr_shared.specs.declared.asked.Asked.{Asked}
 use Rattle.kr_shared.specs.Answers.{Answering, AreReplied, answer_all, answered_of, answering, with_told}
 use Rattle.kr_shared.specs.Standing.{AreWaiting, IsWaitingWrite, Standing}
 use Rattle.kr_shared.specs.Takes.{TakesEvent}
-use Rattle.kr_shared.specs.Works.{DeskView, is_lost, staged_after}
+use Rattle.kr_shared.specs.Works.{DeskView, added_after, is_lost}
 use Rattle.kr_shared.proofs.Answered.{AreAnswers, Ends, alone_told, ends_all}
 use Rattle.kr_shared.proofs.Published.{Publishes}
 use Rattle.kr_shared.proofs.Replied.{AreSilent, all_replied, event_replied}
-use Rattle.kr_shared.proofs.Standings.{Rests, loaded_staged, longer_staged, lost_by, none_staged, shorter_staged}
+use Rattle.kr_shared.proofs.Standings.{Rests, closed_stays, loaded_added, longer_added, lost_by, shorter_added, shorter_shown}
 
 -- ---- who waits, in a longer log
 
@@ -99,62 +100,84 @@ module _ (old : DeskView) (between : Core) (event : Event) (told : List Told) (s
   pub stands : IsEngine between next later
   stands = t.emptied.stands next later mid
 
+  pub next_committed : between.committed ≡ pos next.world.committed
+  next_committed = stands.committed
+
   fresh : between.fresh ≡ log_entries o s event
   fresh = t.emptied.fresh ∙ t.step.fresh s writes k.engine
 
+  abbrev committed_low : s.world.committed ≤ tip_of s
+  committed_low = not_higher s.world.committed s.world.batch_ends (tip_of s) k.engine.is_state.ends
+
+  abbrev closed_between : (s.world.log.offset ≤ closed_of s.world) × (closed_of s.world ≤ s.world.committed)
+  closed_between = closed_end_between s.world.log s.world.committed k.engine.is_state.started committed_low
+
   pub rests : Rests s.world next.world
-  rests = record {
-    started = k.engine.is_state.started;
-    low = not_higher s.world.committed s.world.batch_ends (tip_of s) k.engine.is_state.ends;
-    rises = (event_goes o s event k.engine.is_state.ends).committed;
-    within = not_higher next.world.committed next.world.batch_ends (tip_of next) mid.is_state.ends;
-    few = mid.is_state.low;
-    image = t.between.images.tip;
-    means = mid.present;
-    at_standby = λ none. sym (tip_only s.world.log s.world.committed s.world.batch_ends (tip_of s) k.engine.is_state.ends (k.engine.is_state.at_standby none).0);
-  }
+  rests =
+      let here = closed_between in
+      let low = committed_low in
+      let low_then = not_higher next.world.committed next.world.batch_ends (tip_of next) mid.is_state.ends in
+      let then = closed_end_between next.world.log next.world.committed mid.is_state.started low_then in
+      let first = here.0 in
+      let second = here.1 in
+      let third = then.1 in
+      record {
+        started = first;
+        low = omega (arith, second, low);
+        committed = second;
+        rises = (event_goes o s event k.engine.is_state.started k.engine.is_state.ends).closed;
+        within = omega (arith, third, low_then);
+        few = mid.is_state.low;
+        few_before = k.engine.is_state.low;
+        image = t.between.images.tip;
+        means = mid.present;
+        before = old.engine.images.tip;
+        meant = k.engine.present;
+        at_standby = λ none. sym (tip_only s.world.log s.world.committed s.world.batch_ends (tip_of s) k.engine.is_state.ends (k.engine.is_state.at_standby none).0);
+      }
 
   evolved : Evolved s.world next.world between.fresh
   evolved = subst (Evolved s.world next.world) (sym fresh) (evolves o s event)
 
-  abbrev pub staged : List Entry
-  staged = staged_after (is_lost old.engine between) old.shelf.items between.fresh
+  abbrev pub added : List Entry
+  added = added_after (is_lost old.engine between) between.committed old.unstaged between.fresh
 
-  abbrev pub staged_by : List Entry
-  staged_by = staged_after (lost_by s.world.leading next.world.leading) (item_entries (pos s.world.committed) (items_from s.world.log s.world.committed)) between.fresh
+  abbrev pub added_by : List Entry
+  added_by = added_after (lost_by s.world.leading next.world.leading) (pos next.world.committed) (item_entries (pos (closed_of s.world)) (items_from s.world.log (closed_of s.world))) between.fresh
 
-  pub staged_so : staged ≡ staged_by
-  staged_so =
-      ap (λ (l : Option ℤ). staged_after (lost_by l between.leading) old.shelf.items between.fresh) k.engine.leading
-      ∙ (ap (λ (l : Option ℤ). staged_after (lost_by s.world.leading l) old.shelf.items between.fresh) stands.leading
-      ∙ ap (λ (h : Shelf). staged_after (lost_by s.world.leading next.world.leading) h.items between.fresh) k.rests)
+  pub added_so : added ≡ added_by
+  added_so =
+      ap (λ (l : Option ℤ). added_after (lost_by l between.leading) between.committed old.unstaged between.fresh) k.engine.leading
+      ∙ (ap (λ (l : Option ℤ). added_after (lost_by s.world.leading l) between.committed old.unstaged between.fresh) stands.leading
+      ∙ (ap (λ (z : ℤ). added_after (lost_by s.world.leading next.world.leading) z old.unstaged between.fresh) stands.committed
+      ∙ ap (λ (es : List Entry). added_after (lost_by s.world.leading next.world.leading) (pos next.world.committed) es between.fresh) k.unstaged))
 
   abbrev list : List Entry
   list = old.shelf.list
 
-  publishes_by : Evolved s.world next.world between.fresh → Publishes next.world.log next.world.committed list staged_by
-  publishes_by (inl (l, is)) = longer_staged s.world next.world list between.fresh rests k.shows l is
-  publishes_by (inr (inl (c, is))) = shorter_staged s.world next.world list between.fresh rests k.shows c is
-  publishes_by (inr (inr (l, is))) = loaded_staged s.world next.world list between.fresh rests k.shows l is (λ valid. sym (as_records Rattle.kr_defs.specs.Image.empty (records_of l.image)) ∙ own_records l.image valid)
+  publishes_by : Evolved s.world next.world between.fresh → Publishes next.world.log (closed_of next.world) list added_by
+  publishes_by (inl (l, is)) = longer_added s.world next.world list between.fresh rests k.shows l is
+  publishes_by (inr (inl (c, is))) = shorter_added s.world next.world list between.fresh rests k.shows c is
+  publishes_by (inr (inr (l, is))) = loaded_added s.world next.world list between.fresh rests k.shows l is (λ valid. sym (as_records Rattle.kr_defs.specs.Image.empty (records_of l.image)) ∙ own_records l.image valid)
 
-  pub publishes : Publishes next.world.log next.world.committed list staged
-  publishes = subst (Publishes next.world.log next.world.committed list) (sym staged_so) (publishes_by evolved)
+  pub publishes : Publishes next.world.log (closed_of next.world) list added
+  publishes = subst (Publishes next.world.log (closed_of next.world) list) (sym added_so) (publishes_by evolved)
 
   abbrev pub shown : List Entry
-  shown = list ++ staged_below (pos next.world.committed) staged
+  shown = list ++ staged_below (pos (closed_of next.world)) added
 
   -- ---- what is told
 
   abbrev pub answers_told : List Told
-  answers_told = told_answers next.world.leading (pos next.world.committed) held
+  answers_told = told_answers next.world.leading (pos (closed_of next.world)) held
 
   pub told_is : told ≡ map told_alone (t.between.given ++ option_to_list t.between.refusal) ++ answers_told
   told_is =
       let alone = map told_alone (t.between.given ++ option_to_list t.between.refusal) in
       t.emptied.all
-      ∙ (ap (λ (l : Option ℤ). alone ++ told_answers l t.between.committed t.between.held) mid.leading
-      ∙ (ap (λ c. alone ++ told_answers next.world.leading c t.between.held) mid.committed
-      ∙ ap (λ ws. alone ++ told_answers next.world.leading (pos next.world.committed) ws) (t.step.held s writes k.engine)))
+      ∙ (ap (λ (l : Option ℤ). alone ++ told_answers l t.between.closed t.between.held) mid.leading
+      ∙ (ap (λ c. alone ++ told_answers next.world.leading c t.between.held) mid.closed
+      ∙ ap (λ ws. alone ++ told_answers next.world.leading (pos (closed_of next.world)) ws) (t.step.held s writes k.engine)))
 
   pub answers_are : (st : Answering) → fold with_told st told ≡ fold with_told st answers_told
   answers_are st = ap (fold with_told st) told_is ∙ alone_told st (t.between.given ++ option_to_list t.between.refusal) answers_told
@@ -184,24 +207,24 @@ module _ (old : DeskView) (between : Core) (event : Event) (told : List Told) (s
   pub waits_on : (ones : List Asked) → AreWaiting o next.world.log ones held → AreWaiting o next.world.log (fold with_told (answering ones []) told).waiting later
   waits_on ones waits =
       subst (λ (r : Answering). AreWaiting o next.world.log r.waiting later) (sym (answers_are (answering ones [])))
-      (ends_all o next.world.log next.world.committed next.world.leading ones held [] waits ordered).waits
+      (ends_all o next.world.log (closed_of next.world) next.world.leading ones held [] waits ordered).waits
 
   pub answered_longer : (ones : List Asked) → AreSilent (answers_now o s1 event) → AreWaiting o next.world.log ones held → Answers (fold with_told (answering ones []) told)
   answered_longer ones silent waits =
-      let e = ends_all o next.world.log next.world.committed next.world.leading ones held [] waits ordered in
+      let e = ends_all o next.world.log (closed_of next.world) next.world.leading ones held [] waits ordered in
       subst Answers (sym (answers_are (answering ones []))) (record {
         waits = e.waits;
         bare = subst AreNotes (sym e.answers.added) e.answers.bare;
         right = subst (AreRightAfter o shown) (sym e.answers.added) (e.answers.right shown publishes.shows);
-        replied = replied_by (fold with_told (answering ones []) answers_told).notes silent (all_replied o next.world.log next.world.committed next.world.leading ones held [] waits ordered);
+        replied = replied_by (fold with_told (answering ones []) answers_told).notes silent (all_replied o next.world.log (closed_of next.world) next.world.leading ones held [] waits ordered);
       })
 
   -- on standby no write waits
   pub none_waits : s.world.leading ≡ None → writes ≡ []
   none_waits none =
       sym k.engine.waits
-      ∙ (ap (λ (l : Option ℤ). filter (is_open l old.engine.committed) old.engine.held) (k.engine.leading ∙ none)
-      ∙ none_open old.engine.committed old.engine.held)
+      ∙ (ap (λ (l : Option ℤ). filter (is_open l old.engine.closed) old.engine.held) (k.engine.leading ∙ none)
+      ∙ none_open old.engine.closed old.engine.held)
 
   pub waits_longer : Longer s.world next.world → AreWaiting o next.world.log old.waiting writes
   waits_longer l =
@@ -216,22 +239,24 @@ module _ (old : DeskView) (between : Core) (event : Event) (told : List Told) (s
 
     answered_shorter : Rattle.law_published_log.proofs.Evolving.Shorter s.world next.world → between.fresh ≡ [] → Answers (fold with_told (answering old.waiting []) told)
     answered_shorter c is =
-        let e = ends_all o s.world.log s.world.committed next.world.leading old.waiting held [] (subst (AreWaiting o s.world.log old.waiting) (sym held_is) k.waits) ordered in
-        let r = fold with_told (answering old.waiting []) (told_answers next.world.leading (pos s.world.committed) held) in
+        let end : ℕ = closed_of s.world in
+        let same : closed_of next.world ≡ end = closed_stays s.world next.world list between.fresh rests k.shows c in
+        let e = ends_all o s.world.log end next.world.leading old.waiting held [] (subst (AreWaiting o s.world.log old.waiting) (sym held_is) k.waits) ordered in
+        let r = fold with_told (answering old.waiting []) (told_answers next.world.leading (pos end) held) in
         let here : shown ≡ list =
-        ap (λ (l : List Entry). list ++ staged_below (pos next.world.committed) l) (staged_so ∙ none_staged s.world next.world list between.fresh rests k.shows c is) ∙ append-nil list in
+        ap (λ (l : List Entry). list ++ staged_below (pos (closed_of next.world)) l) added_so ∙ (ap (λ (l : List Entry). list ++ l) (shorter_shown s.world next.world list between.fresh rests k.shows c is) ∙ append-nil list) in
         subst Answers
-        (sym (answers_are (answering old.waiting []) ∙ ap (λ n. fold with_told (answering old.waiting []) (told_answers next.world.leading (pos n) held)) c.same))
+        (sym (answers_are (answering old.waiting []) ∙ ap (λ n. fold with_told (answering old.waiting []) (told_answers next.world.leading (pos n) held)) same))
         (record {
           waits =
-              subst (AreWaiting o next.world.log r.waiting) (over c.over (pos s.world.committed) ∙ sym (over c.over (pos next.world.committed)))
-              (none_wait o s.world.log next.world.log r.waiting (filter (is_open next.world.leading (pos s.world.committed)) held) (over c.over (pos s.world.committed)) e.waits);
+              subst (AreWaiting o next.world.log r.waiting) (over c.over (pos end) ∙ sym (over c.over (pos (closed_of next.world))))
+              (none_wait o s.world.log next.world.log r.waiting (filter (is_open next.world.leading (pos end)) held) (over c.over (pos end)) e.waits);
           bare = subst AreNotes (sym e.answers.added) e.answers.bare;
-          right = subst (AreRightAfter o shown) (sym e.answers.added) (e.answers.right shown (subst (Shows s.world.log s.world.committed) (sym here) k.shows));
+          right = subst (AreRightAfter o shown) (sym e.answers.added) (e.answers.right shown (subst (Shows s.world.log end) (sym here) k.shows));
           replied =
               replied_by r.notes silent
-              (subst (λ n. AreReplied r.notes (answers next.world.leading (pos n) held)) (sym c.same)
-              (all_replied o s.world.log s.world.committed next.world.leading old.waiting held [] (subst (AreWaiting o s.world.log old.waiting) (sym held_is) k.waits) ordered));
+              (subst (λ n. AreReplied r.notes (answers next.world.leading (pos n) held)) (sym same)
+              (all_replied o s.world.log end next.world.leading old.waiting held [] (subst (AreWaiting o s.world.log old.waiting) (sym held_is) k.waits) ordered));
         })
 
     answered_by : Evolved s.world next.world between.fresh → Answers (fold with_told (answering old.waiting []) told)

@@ -17,15 +17,15 @@ use Rattle.kr_model.specs.declared.writes.Write.{Write}
 use Rattle.kr_model.specs.Engine.{Core, IsEngine, IsSound, IsStep, outputs_left}
 use Rattle.kr_model.specs.Events.{at_time_of, happens}
 use Rattle.kr_model.specs.Outputs.{waiting_after}
-use Rattle.kr_model.specs.World.{State}
+use Rattle.kr_model.specs.World.{State, closed_of}
 use Rattle.kr_model.proofs.OutputsLeft.{handing_out_stands}
-use Rattle.law_published_log.specs.Following.{AreNotes}
+use Rattle.law_published_log.specs.Following.{AreNotes, Shows}
 use Rattle.law_published_log.proofs.Shown.{shown_logs_go_on}
 use Rattle.kr_shared.specs.declared.answers.Asking.{Asking}
 use Rattle.kr_shared.specs.declared.asked.Asked.{Asked}
 use Rattle.kr_shared.specs.declared.taking.Given.{Given}
 use Rattle.kr_shared.specs.Answers.{Answering, AreReplied, answer_all, answering, aside_noted}
-use Rattle.kr_shared.specs.Desks.{IsCaughtUp, DeskState, DeskStands, aside_by, cut_if, entered_by, settled, takes_writes}
+use Rattle.kr_shared.specs.Desks.{IsCaughtUp, DeskState, DeskStands, aside_by, entered_by, settled, takes_writes}
 use Rattle.kr_shared.specs.Desks.{ready as all_ready}
 use Rattle.kr_shared.specs.Gives.{GivesOut}
 use Rattle.kr_shared.specs.Lines.{HasLineRoom, LineView}
@@ -33,11 +33,13 @@ use Rattle.kr_shared.specs.Serves.{ServesEvent}
 use Rattle.kr_shared.specs.Standing.{AreWaiting, StandsForSome, Standing}
 use Rattle.kr_shared.specs.Takes.{TakesEvent}
 use Rattle.kr_shared.specs.Tasks.{IsTask}
-use Rattle.kr_shared.specs.Works.{DeskView, answers_of, is_lost, resting, staged_after}
+use Rattle.kr_shared.specs.Works.{DeskView, added_after, answers_of, cut_if, is_lost, resting}
+use Rattle.kr_shared.specs.inner.Dropping.{left_if}
+use Rattle.kr_shared.proofs.Dropped.{below_again, left_cut, none_above}
 use Rattle.kr_shared.proofs.Made.{all_noted, made, with_more}
 use Rattle.kr_shared.proofs.Published.{AreLogged, Publishes}
 use Rattle.kr_shared.proofs.Replied.{link_silent}
-use Rattle.kr_shared.proofs.Served.{Answers, answered, holds_none, next, outputs_told, publishes, shown, staged, stands}
+use Rattle.kr_shared.proofs.Served.{Answers, answered, holds_none, next, next_committed, outputs_told, publishes, shown, stands}
 use Rattle.kr_shared.proofs.Writes.{made_so, none_besides, written}
 
 -- ---- items and images are right wherever they stand
@@ -73,15 +75,6 @@ below_logged end (entries.Stop number ∷ es) h = absurd h
 
 -- ---- what is staged
 
-logged_behind : (xs ys : List Entry) → AreLogged (xs ++ ys) → AreLogged ys
-logged_behind [] ys h = h
-logged_behind (entries.Item place item ∷ xs) ys h = logged_behind xs ys h
-logged_behind (entries.Load offset records ∷ xs) ys h = logged_behind xs ys h
-logged_behind (entries.Pin pin ∷ xs) ys h = absurd h
-logged_behind (entries.Unpin pin ∷ xs) ys h = absurd h
-logged_behind (entries.Answer answer ∷ xs) ys h = absurd h
-logged_behind (entries.Stop number ∷ xs) ys h = absurd h
-
 pub all_staged : (shelf : Shelf) (es : List Entry) → AreLogged es → fold with_staged shelf es ≡ record shelf { items = shelf.items ++ es }
 all_staged shelf [] h = ap (λ (l : List Entry). record shelf { items = l }) (sym (append-nil shelf.items))
 all_staged shelf (entries.Item place item ∷ es) h =
@@ -112,14 +105,30 @@ module _ (old : DeskView) (between : Core) (event : Event) (asking : Option Aski
   abbrev o : Options
   o = old.engine.options
 
-  abbrev pub stage : List Entry
-  stage = staged_after (is_lost old.engine between) old.shelf.items between.fresh
+  abbrev pub more : List Entry
+  more = added_after (is_lost old.engine between) between.committed old.unstaged between.fresh
 
+  -- all of it is staged that is below the closed end
   abbrev pub ready : Shelf
-  ready = record { options = old.shelf.options; list = old.shelf.list; waiting = []; items = stage; notes = r.notes }
+  ready = record { options = old.shelf.options; list = old.shelf.list; waiting = []; items = staged_below between.closed more; notes = r.notes }
 
   abbrev pub after : DeskView
-  after = record { shelf = shown_at between.committed ready; engine = record between { fresh = [] }; waiting = r.waiting }
+  after = record {
+    shelf = resting old.shelf.options (old.shelf.list ++ (staged_below between.closed more ++ r.notes));
+    unstaged = staged_above between.closed more;
+    engine = record between { fresh = [] };
+    waiting = r.waiting;
+  }
+
+  -- a publish shows just that
+  below_all : staged_below between.closed (staged_below between.closed more) ≡ staged_below between.closed more
+  below_all = below_again between.closed more
+
+  above_none : staged_above between.closed (staged_below between.closed more) ≡ []
+  above_none = none_above between.closed more
+
+  pub shown_is : shown_at between.closed ready ≡ after.shelf
+  shown_is = λ i. record { options = old.shelf.options; list = old.shelf.list ++ (below_all i ++ r.notes); waiting = []; items = above_none i; notes = [] }
 
   module _ (s : State) (writes : List Write) (k : Standing old s writes) where
     answers_ask : (e : Event) (a : Asking) (x : TakesEvent old.engine between e told) → IsTask old.engine e (Some a) → Answers old between e told s writes k x (answers_of (Some a) e led old.waiting told)
@@ -140,39 +149,39 @@ module _ (old : DeskView) (between : Core) (event : Event) (asking : Option Aski
     pub replies : Answers old between event told s writes k t r
     replies = answers_by asking task
 
-    p : Publishes (next old between event told s writes k t).world.log (next old between event told s writes k t).world.committed old.shelf.list stage
+    p : Publishes (next old between event told s writes k t).world.log (closed_of (next old between event told s writes k t).world) old.shelf.list more
     p = publishes old between event told s writes k t
 
     e : IsEngine between (happens o s event) (waiting_after o s writes event)
     e = stands old between event told s writes k t
 
     abbrev end : ℕ
-    end = (happens o s event).world.committed
+    end = closed_of (happens o s event).world
 
-    at_end : between.committed ≡ pos end
-    at_end = e.committed
+    at_end : between.closed ≡ pos end
+    at_end = e.closed
 
-    pub may_publish : AreRightAfter ready.options ready.list (next_at between.committed ready)
+    pub may_publish : AreRightAfter ready.options ready.list (next_at between.closed ready)
     may_publish =
-        subst (λ (q : Options). AreRightAfter q old.shelf.list (staged_below between.committed stage ++ r.notes)) k.options
-        (subst (λ z. AreRightAfter o old.shelf.list (staged_below z stage ++ r.notes)) (sym at_end)
-        (right_behind o old.shelf.list (staged_below (pos end) stage) r.notes (below_logged (pos end) stage p.logged) replies.right))
+        subst (λ (l : List Entry). AreRightAfter old.shelf.options old.shelf.list (l ++ r.notes)) (sym below_all)
+        (subst (λ (q : Options). AreRightAfter q old.shelf.list (staged_below between.closed more ++ r.notes)) k.options
+        (subst (λ z. AreRightAfter o old.shelf.list (staged_below z more ++ r.notes)) (sym at_end)
+        (right_behind o old.shelf.list (staged_below (pos end) more) r.notes (below_logged (pos end) more p.logged) replies.right)))
 
-    pub fresh_logged : AreLogged between.fresh
-    fresh_logged = logged_behind (cond (is_lost old.engine between) [] old.shelf.items) between.fresh p.logged
+    pub more_logged : AreLogged (staged_below between.closed more)
+    more_logged = below_logged between.closed more p.logged
 
     pub stands_after : Standing after (happens o s event) (waiting_after o s writes event)
     stands_after = record {
       engine = taken_stands between (happens o s event) (waiting_after o s writes event) e;
       none = t.emptied.none;
       options = t.emptied.options ∙ (t.step.options ∙ k.options);
-      rests =
-          ap (λ (l : List Entry). resting old.shelf.options (old.shelf.list ++ (staged_below between.committed stage ++ r.notes)) l)
-          (ap (λ z. staged_above z stage) at_end ∙ p.rest);
+      rests = refl;
+      unstaged = ap (λ z. staged_above z more) at_end ∙ p.rest;
       shows =
-          subst (Rattle.law_published_log.specs.Following.Shows (happens o s event).world.log end)
-          (append_assoc old.shelf.list (staged_below (pos end) stage) r.notes ∙ ap (λ z. old.shelf.list ++ (staged_below z stage ++ r.notes)) (sym at_end))
-          (shown_logs_go_on.notes (happens o s event).world.log end (old.shelf.list ++ staged_below (pos end) stage) r.notes p.shows replies.bare);
+          subst (Shows (happens o s event).world.log end)
+          (append_assoc old.shelf.list (staged_below (pos end) more) r.notes ∙ ap (λ z. old.shelf.list ++ (staged_below z more ++ r.notes)) (sym at_end))
+          (shown_logs_go_on.notes (happens o s event).world.log end (old.shelf.list ++ staged_below (pos end) more) r.notes p.shows replies.bare);
       waits = subst (λ (q : Options). AreWaiting q (happens o s event).world.log r.waiting (waiting_after o s writes event)) (sym (t.emptied.options ∙ t.step.options)) replies.waits;
     }
 
@@ -181,13 +190,9 @@ module _ (old : DeskView) (between : Core) (event : Event) (asking : Option Aski
 pub sound_then : (w : DeskView) → StandsForSome w → IsSound w.engine × (outputs_left w.engine ≡ [])
 sound_then w k = (record { state = k.state; writes = k.writes; stands = k.stands.engine }, k.stands.none)
 
-dropped : (lost : Bool) (s : Shelf) → cut_if lost s ≡ record s { items = cond lost [] s.items }
-dropped true s = refl
-dropped false s = refl
-
 -- what is settled is at rest
-pub at_rest : (k : DeskState) → IsCaughtUp k → StandsForSome (settled k) → k.shelf ≡ resting (settled k).shelf.options (settled k).shelf.list (settled k).shelf.items
-at_rest k rests s = rests.rests ∙ (s.stands.rests ∙ sym (ap (λ (h : Shelf). resting h.options h.list h.items) s.stands.rests))
+pub at_rest : (k : DeskState) → IsCaughtUp k → StandsForSome (settled k) → k.shelf ≡ resting (settled k).shelf.options (settled k).shelf.list
+at_rest k rests s = rests.rests ∙ s.stands.rests
 
 module _ (w0 : DeskState) (rests : IsCaughtUp w0) (k : StandsForSome (settled w0)) (event : Event) (asking : Option Asking) (task : IsTask w0.engine event asking) (e1 e2 : Core) (l2 l3 l4 : LineView) (given : Given)
     (pieces pieces' : Option (List (List ℕ))) (faults faults' : ℕ) (step : IsStep w0.engine e1 event) (gives : GivesOut e1 e2 pieces pieces' faults faults' l2 l3 given) where
@@ -226,7 +231,7 @@ module _ (w0 : DeskState) (rests : IsCaughtUp w0) (k : StandsForSome (settled w0
 
   module _ (entered : l2.waiting ≡ w0.line.waiting ++ entered_by takes asking event) (none : l2.due ≡ w0.line.due) (waiting : l4.waiting ≡ l3.waiting)
       (noted : l4.due ≡ l3.due ++ aside_noted (aside_by takes asking event) given.refusal given.reply) (lost : Bool) (lost_is : lost ≡ (is_some w0.engine.leading && not (is_some e2.leading)))
-      (w6 : DeskState) (is : w6 ≡ record { shelf = cut_if lost w0.shelf; engine = record e2 { fresh = [] }; line = l4; unstaged = e2.fresh; cut = w0.cut }) where
+      (w6 : DeskState) (unstaged : List Entry) (left : unstaged ≡ left_if lost e2.committed w0.unstaged) (is : w6 ≡ record { shelf = w0.shelf; engine = record e2 { fresh = [] }; line = l4; unstaged = unstaged; fresh = e2.fresh }) where
     answers : answering l4.waiting l4.due ≡ replied
     answers =
         (λ i. answering (waiting i) (noted i))
@@ -240,19 +245,32 @@ module _ (w0 : DeskState) (rests : IsCaughtUp w0) (k : StandsForSome (settled w0
     abbrev shelf_then : Shelf
     shelf_then = ready then e2 event asking told task t
 
+    abbrev s : State
+    s = k.state
+
+    -- what is kept of the log, by the state
+    kept_is : left_if lost e2.committed w0.unstaged ≡ cut_if (is_lost w0.engine e2) e2.committed then.unstaged
+    kept_is =
+        ap (λ (es : List Entry). left_if lost e2.committed es) rests.unstaged
+        ∙ (ap (λ b. left_if b e2.committed then.unstaged) lost_is
+        ∙ left_cut (is_lost w0.engine e2) e2.committed then.unstaged s k.stands.unstaged (next_committed then e2 event told s k.writes k.stands t))
+
+    added_so : unstaged ++ e2.fresh ≡ more then e2 event asking told task t
+    added_so = ap (λ (es : List Entry). es ++ e2.fresh) (left ∙ kept_is)
+
     -- all is staged
     ready_so : all_ready w6 ≡ shelf_then
     ready_so =
-        (λ i. fold with_staged (fold with_staged (is i).shelf (is i).unstaged) (is i).line.due)
-        ∙ (ap (λ (h : Shelf). fold with_staged h l4.due) (all_staged (cut_if lost w0.shelf) e2.fresh (fresh_logged then e2 event asking told task t k.state k.writes k.stands))
-        ∙ (all_noted (record (cut_if lost w0.shelf) { items = (cut_if lost w0.shelf).items ++ e2.fresh }) l4.due bare_then
-        ∙ (ap (λ (h : Shelf). record h { items = h.items ++ e2.fresh; notes = h.notes ++ l4.due }) (dropped lost w0.shelf)
-        ∙ (λ i. let h = at_rest w0 rests k i in record { options = h.options; list = h.list; waiting = h.waiting; items = cond (lost_is i) [] h.items ++ e2.fresh; notes = h.notes ++ (answers i).notes }))))
+        (λ i. fold with_staged (fold with_staged (is i).shelf (staged_below (is i).engine.closed ((is i).unstaged ++ (is i).fresh))) (is i).line.due)
+        ∙ (ap (λ (es : List Entry). fold with_staged (fold with_staged w0.shelf (staged_below e2.closed es)) l4.due) added_so
+        ∙ (ap (λ (h : Shelf). fold with_staged h l4.due) (all_staged w0.shelf (staged_below e2.closed (more then e2 event asking told task t)) (more_logged then e2 event asking told task t k.state k.writes k.stands))
+        ∙ (all_noted (record w0.shelf { items = w0.shelf.items ++ staged_below e2.closed (more then e2 event asking told task t) }) l4.due bare_then
+        ∙ (λ i. let h = at_rest w0 rests k i in record { options = h.options; list = h.list; waiting = h.waiting; items = h.items ++ staged_below e2.closed (more then e2 event asking told task t); notes = h.notes ++ (answers i).notes }))))
 
     settled_so : settled w6 ≡ after then e2 event asking told task t
     settled_so =
-        (λ i. record { shelf = cut_if (((ap (λ (w : DeskState). w.cut) is) ∙ rests.cut) i) (shown_at (is i).engine.committed (ready_so i)); engine = (is i).engine; waiting = (is i).line.waiting })
-        ∙ ap (λ (q : Answering). record { shelf = shown_at e2.committed shelf_then; engine = record e2 { fresh = [] }; waiting = q.waiting }) answers
+        (λ i. record { shelf = shown_at (is i).engine.closed (ready_so i); unstaged = staged_above (is i).engine.closed ((is i).unstaged ++ (is i).fresh); engine = (is i).engine; waiting = (is i).line.waiting })
+        ∙ (λ i. record { shelf = shown_is then e2 event asking told task t i; unstaged = staged_above e2.closed (added_so i); engine = record e2 { fresh = [] }; waiting = (answers i).waiting })
 
     pub serves_so : ServesEvent pieces pieces' faults faults' then (settled w6) event asking given.appended given.refusal
     serves_so = record {
@@ -266,9 +284,10 @@ module _ (w0 : DeskState) (rests : IsCaughtUp w0) (k : StandsForSome (settled w0
       answered = refl;
       replied = subst (AreReplied replied.notes) (sym (outputs_told then e2 event told k.state k.writes k.stands t)) (replies then e2 event asking told task t k.state k.writes k.stands).replied;
       waiting = ap (λ (w : DeskView). w.waiting) settled_so;
-      staged = stage then e2 event asking told task t;
-      added = refl;
+      added = more then e2 event asking told task t;
+      adds = refl;
       shelf = ap (λ (w : DeskView). w.shelf) settled_so;
+      unstaged = ap (λ (w : DeskView). w.unstaged) settled_so;
       stands = λ s writes h. subst (λ (w : DeskView). Standing w (happens w0.engine.options s event) (waiting_after w0.engine.options s writes event)) (sym settled_so) (stands_after then e2 event asking told task t s writes h);
     }
 
@@ -280,7 +299,7 @@ module _ (w0 : DeskState) (rests : IsCaughtUp w0) (k : StandsForSome (settled w0
         stands = serves_so.stands k.state k.writes k.stands;
       };
       right =
-          subst (λ (x : Shelf × Core). AreRightAfter x.0.options x.0.list (next_at x.1.committed x.0)) (λ i. (sym ready_so i, sym (ap (λ (w : DeskState). w.engine) is) i))
+          subst (λ (x : Shelf × Core). AreRightAfter x.0.options x.0.list (next_at x.1.closed x.0)) (λ i. (sym ready_so i, sym (ap (λ (w : DeskState). w.engine) is) i))
           (may_publish then e2 event asking told task t k.state k.writes k.stands);
       room = subst (λ (w : DeskState). HasLineRoom w.line) (sym is) room;
     }

@@ -1,6 +1,6 @@
 -- Behind a job the worker stands for a state again.
 use Rattle.std.proofs.Common.{◌≡◌, sym, subst, ℕ, ℤ, Bool, true, false, List, refl, ap, ◌∙◌, ◌⊎◌, inl, inr}
-use Rattle.std.specs.Prelude.{Option, Some, None, IsTrue, int_lt, Result, Ok, Err, OnErr}
+use Rattle.std.specs.Prelude.{Option, Some, None, IsTrue, int_lt, Result, Ok, Err, IfErr, OnErr, OnOk}
 use Rattle.kr_base.specs.Causes.{Rose}
 use Rattle.kr_calls.specs.declared.answers.AnswerKind.TheVariants as kinds
 use Rattle.kr_calls.specs.declared.calls.Ask.TheVariants as asks
@@ -176,6 +176,11 @@ module _ (o : Outside) (old mid taken new : Bench) (job : Job) (mid_is : mid ≡
       due = d.goes.due;
     };
   }
+
+-- done, or left so that it stands too
+pub either_way : {T E P : Type 0} {Q : E → Type 0} (r : Result T E) → OnOk r P → IfErr r Q → ((e : E) → Q e → P) → P
+either_way (Ok x) done back stands = done
+either_way (Err e) done back stands = stands e back
 
 -- whatever was answered
 pub whatever : {T E P : Type 0} (r : Result T E) → P → OnErr r P

@@ -30,7 +30,7 @@ use Rattle.kr_model.specs.Events.{at_time_of, happens, next_number, outcome, wit
 use Rattle.kr_model.specs.Outputs.{answers_in, answers_now, append, is_open_in, new_writes, outputs_of, outputs_then, replies_now, told_alone, told_answers, write_of, writes_of}
 use Rattle.kr_model.specs.Reasons.{exhausted}
 use Rattle.kr_model.specs.Request.{after_ask, after_write, decision, is_decided}
-use Rattle.kr_model.specs.World.{State, World, image_of_end, is_far, log_with, tip_of}
+use Rattle.kr_model.specs.World.{State, World, closed_of, image_of_closed, is_far, log_with, tip_of}
 use Rattle.kr_model.proofs.EventOutcomes.{outputs_accepted, outputs_refused, writes_accepted, writes_refused}
 use Rattle.kr_model.proofs.LogEntries.{batch_written}
 use Rattle.law_published_log.specs.Following.{AreNotes}
@@ -159,8 +159,8 @@ module _ (old : DeskView) (between : Core) (client : ℕ) (now : ℤ) (call : Ca
         (both_accepted (first ++ []) now_given
         (both_accepted first [] (one_append decided batches (appended (length (decision o s1 call.request).records == 0) (Rattle.kr_batch.specs.BatchBytes.batch_bytes (Rattle.kr_model.specs.Outputs.next_batch s1 (decision o s1 call.request).records)))) tt)
         (replies_accepted (λ _. client) (λ _. call.correlation) (λ (r : Reply). r) (replies_now o s1 call.request)))
-        (replies_accepted (λ (w : Write). w.client) (λ (w : Write). w.correlation) (λ (w : Write). cond (int_lt (pos after.world.committed) w.need) w.refusal w.reply)
-        (Rattle.kr_model.specs.Outputs.due_writes after.world.leading (pos after.world.committed) (writes ++ writes_of o s1 event)))
+        (replies_accepted (λ (w : Write). w.client) (λ (w : Write). w.correlation) (λ (w : Write). cond (int_lt (pos (closed_of after.world)) w.need) w.refusal w.reply)
+        (Rattle.kr_model.specs.Outputs.due_writes after.world.leading (pos (closed_of after.world)) (writes ++ writes_of o s1 event)))
 
     no_why : refusal_in told ≡ None
     no_why = reasons_in None told ∙ (ap (fold or_reason_of None) out_then ∙ no_reason (outputs_then o s1 writes event after) none_refused)
@@ -188,7 +188,7 @@ module _ (old : DeskView) (between : Core) (client : ℕ) (now : ℤ) (call : Ca
 
       none_now : replies_now o s1 call.request ≡ []
       none_now =
-          ap (λ b. cond b (option_to_list (query o (image_of_end s1) call.request)) (cond (is_some s.world.leading) [] (refuse call.request NOT_CONTROLLER ∷ []))) no_read
+          ap (λ b. cond b (option_to_list (query o (image_of_closed s1) call.request)) (cond (is_some s.world.leading) [] (refuse call.request NOT_CONTROLLER ∷ []))) no_read
           ∙ ap (λ b. cond b [] (refuse call.request NOT_CONTROLLER ∷ [])) leads
 
       silent : AreSilent (answers_now o s1 event)
@@ -213,7 +213,7 @@ module _ (old : DeskView) (between : Core) (client : ℕ) (now : ℤ) (call : Ca
 
       replies : replies_now o s1 call.request ≡ reply ∷ []
       replies =
-          ap (λ b. cond b (option_to_list (query o (image_of_end s1) call.request)) (cond (is_some s.world.leading) [] (reply ∷ []))) no_read
+          ap (λ b. cond b (option_to_list (query o (image_of_closed s1) call.request)) (cond (is_some s.world.leading) [] (reply ∷ []))) no_read
           ∙ ap (λ (l : Option ℤ). cond (is_some l) [] (reply ∷ [])) standby
 
       none_then : Rattle.kr_model.specs.Outputs.waiting_after o s writes event ≡ []
@@ -237,7 +237,7 @@ module _ (old : DeskView) (between : Core) (client : ℕ) (now : ℤ) (call : Ca
       told_so_far : told ≡ map told_alone alone
       told_so_far =
           told_is old between event told s writes k t
-          ∙ (ap (λ (ws : List Write). map told_alone alone ++ told_answers next.world.leading (pos next.world.committed) ws) none_held
+          ∙ (ap (λ (ws : List Write). map told_alone alone ++ told_answers next.world.leading (pos (closed_of next.world)) ws) none_held
           ∙ append-nil (map told_alone alone))
 
       none_answered : (st : Answering) → fold with_told st told ≡ st

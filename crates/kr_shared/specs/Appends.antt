@@ -7,14 +7,14 @@ use Rattle.kr_calls.specs.declared.events.Output.TheVariants as given
 use Rattle.kr_model.specs.declared.writes.Told.{Told}
 
 -- the batch of an output, if it is one
-abbrev pub batch_in : Output → Option (List ℕ)
-batch_in (given.Append bytes) = Some bytes
-batch_in (given.Reply client correlation reply) = None
-batch_in (given.Refused event reason) = None
-batch_in (given.Image bytes) = None
+abbrev pub batch_of_output : Output → Option (List ℕ)
+batch_of_output (given.Append bytes) = Some bytes
+batch_of_output (given.Reply client correlation reply) = None
+batch_of_output (given.Refused event reason) = None
+batch_of_output (given.Image bytes) = None
 
 abbrev pub batch_told : Told → Option (List ℕ)
-batch_told told = batch_in told.output
+batch_told told = batch_of_output told.output
 
 abbrev pub with_some : Option (List (List ℕ)) → Option (List ℕ) → Option (List (List ℕ))
 with_some pieces (Some batch) = with_piece pieces batch

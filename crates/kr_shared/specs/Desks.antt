@@ -1,10 +1,11 @@
 -- What a worker keeps between its turns, also where it found no memory to publish all. This project's own.
-use Rattle.std.specs.Prelude.{◌≡◌, ◌<◌, ◌+◌, ◌&&◌, not, Bool, false, true, List, [], ◌∷◌, ◌++◌, Option, Some, None, fold, is_some, if◌then◌else◌}
+use Rattle.std.specs.Prelude.{◌≡◌, ◌<◌, ◌+◌, ◌&&◌, not, Bool, List, [], ◌∷◌, ◌++◌, Option, Some, None, fold, is_some, if◌then◌else◌}
 use Rattle.kr_calls.specs.declared.calls.Call.{Call}
 use Rattle.kr_calls.specs.declared.events.Entry.{Entry}
 use Rattle.kr_calls.specs.declared.events.Event.{Event}
 use Rattle.kr_calls.specs.RightAnswers.{AreRightAfter}
 use Rattle.kr_view.specs.Shelves.{Shelf, next_at, shown_at, with_staged}
+use Rattle.kr_view.specs.Staged.{staged_above, staged_below}
 use Rattle.kr_model.specs.Engine.{Core}
 use Rattle.kr_model.specs.World.{is_far}
 use Rattle.kr_shared.specs.declared.answers.Aside.{Aside}
@@ -15,50 +16,52 @@ use Rattle.kr_shared.specs.Lines.{HasLineRoom, IsEmpty, IsSeated, LineView}
 use Rattle.kr_shared.specs.Standing.{StandsForSome}
 use Rattle.kr_shared.specs.Works.{DeskView, KeepsShown, call_in}
 
--- the published list and what is staged, the engine, who waits and what they are due to be told, what the engine added to the
--- log and isn't staged, and whether what the next publish leaves staged is gone with a leadership
+-- the published list and what is staged, the engine, who waits and what they are due to be told, the entries of the log that
+-- aren't staged, and behind them those that the last step added
 pub record DeskState : Type 0 where
   pub shelf : Shelf
   pub engine : Core
   pub line : LineView
   pub unstaged : List Entry
-  pub cut : Bool
+  pub fresh : List Entry
 
--- all is staged
+-- what the engine added to the log and isn't staged
+abbrev pub held_back : DeskState → List Entry
+held_back k = k.unstaged ++ k.fresh
+
+-- all is staged that is below the closed end, and all that is due
 abbrev pub ready : DeskState → Shelf
-ready k = fold with_staged (fold with_staged k.shelf k.unstaged) k.line.due
-
-abbrev pub cut_if : Bool → Shelf → Shelf
-cut_if cut s = if cut then record s { items = [] } else s
+ready k = fold with_staged (fold with_staged k.shelf (staged_below k.engine.closed (held_back k))) k.line.due
 
 -- what the worker does comes to this, once all that is due is published
 abbrev pub settled : DeskState → DeskView
-settled k = record { shelf = cut_if k.cut (shown_at k.engine.committed (ready k)); engine = k.engine; waiting = k.line.waiting }
+settled k = record { shelf = shown_at k.engine.closed (ready k); unstaged = staged_above k.engine.closed (held_back k); engine = k.engine; waiting = k.line.waiting }
 
 -- all is published that is due
 pub record IsCaughtUp (k : DeskState) : Type 0 where
   pub rests : k.shelf ≡ (settled k).shelf
   pub seated : IsSeated k.line
-  pub unstaged : k.unstaged ≡ []
-  pub cut : k.cut ≡ false
+  pub unstaged : k.unstaged ≡ (settled k).unstaged
+  pub fresh : k.fresh ≡ []
 
 -- all is staged that is due
 pub record IsPrepared (k : DeskState) : Type 0 where
   pub seated : IsSeated k.line
-  pub unstaged : k.unstaged ≡ []
+  pub unstaged : staged_below k.engine.closed k.unstaged ≡ []
+  pub fresh : k.fresh ≡ []
 
 -- what is due may be published, and then it stands for some state
 pub record DeskStands (k : DeskState) : Type 0 where
   pub stands : StandsForSome (settled k)
-  pub right : AreRightAfter (ready k).options (ready k).list (next_at k.engine.committed (ready k))
+  pub right : AreRightAfter (ready k).options (ready k).list (next_at k.engine.closed (ready k))
   pub room : HasLineRoom k.line
 
 -- more is staged, and what is due is the same
 pub record StaysDue (old new : DeskState) : Type 0 where
   pub ready : ready new ≡ ready old
+  pub unstaged : staged_above new.engine.closed (held_back new) ≡ staged_above old.engine.closed (held_back old)
   pub engine : new.engine ≡ old.engine
   pub waiting : new.line.waiting ≡ old.line.waiting
-  pub cut : new.cut ≡ old.cut
   pub shown : KeepsShown old.shelf new.shelf
   pub room : HasLineRoom old.line → HasLineRoom new.line
 
@@ -102,4 +105,4 @@ pub record IsNewDesk (shelf : Shelf) (e : Core) (k : DeskState) : Type 0 where
   pub engine : k.engine ≡ e
   pub line : IsEmpty k.line
   pub unstaged : k.unstaged ≡ []
-  pub cut : k.cut ≡ false
+  pub fresh : k.fresh ≡ []

@@ -18,7 +18,7 @@ use Rattle.kr_shared.specs.Works.{resting}
 pub record AreSeated (options : Options) (seats : ℕ) (worker : Bench) (link : List Job) (clients : List Client) : Type 0 where
   pub knows : worker.knows ≡ a_pass roles.Worker (seats + 2)
   pub stands : Standing worker.work start []
-  pub shelf : worker.work.shelf ≡ resting options [] []
+  pub shelf : worker.work.shelf ≡ resting options []
   pub shown : worker.shown ≡ []
   pub stays : worker.stays ≡ None
   pub events : worker.events ≡ 0

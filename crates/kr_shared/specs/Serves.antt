@@ -15,10 +15,10 @@ use Rattle.kr_shared.specs.Answers.{Answering, AreReplied, refusal_in}
 use Rattle.kr_shared.specs.Appends.{Appends}
 use Rattle.kr_shared.specs.Standing.{Standing}
 use Rattle.kr_shared.specs.Takes.{TakesEvent}
-use Rattle.kr_shared.specs.Works.{DeskView, answers_of, is_lost, resting, staged_after}
+use Rattle.kr_shared.specs.Works.{DeskView, added_after, answers_of, is_lost, resting}
 
--- The engine takes the event; what it gives is appended, as far as that went; what it added up to its committed end is
--- published, with the answers behind it, and the rest is staged.
+-- The engine takes the event; what it gives is appended, as far as that went; what it added up to its closed end is published,
+-- with the answers behind it, and the rest is kept.
 pub record ServesEvent (pieces pieces' : Option (List (List ℕ))) (faults faults' : ℕ) (old new : DeskView) (event : Event) (asking : Option Asking) (appended : Bool) (refusal : Option Reason) : Type 0 where
   pub between : Core
   pub told : List Told
@@ -30,8 +30,9 @@ pub record ServesEvent (pieces pieces' : Option (List (List ℕ))) (faults fault
   pub answered : answers ≡ answers_of asking event (is_some old.engine.leading) old.waiting told
   pub replied : AreReplied answers.notes (map (λ (t : Told). t.output) told)
   pub waiting : new.waiting ≡ answers.waiting
-  pub staged : List Entry
-  pub added : staged ≡ staged_after (is_lost old.engine between) old.shelf.items between.fresh
-  pub shelf : new.shelf ≡ resting old.shelf.options (old.shelf.list ++ (staged_below between.committed staged ++ answers.notes)) (staged_above between.committed staged)
+  pub added : List Entry
+  pub adds : added ≡ added_after (is_lost old.engine between) between.committed old.unstaged between.fresh
+  pub shelf : new.shelf ≡ resting old.shelf.options (old.shelf.list ++ (staged_below between.closed added ++ answers.notes))
+  pub unstaged : new.unstaged ≡ staged_above between.closed added
   -- and then the worker stands for the next state
   pub stands : (s : State) (writes : List Write) → Standing old s writes → Standing new (happens old.engine.options s event) (waiting_after old.engine.options s writes event)

@@ -8,7 +8,7 @@ use Rattle.kr_defs.specs.Log.{Log}
 use Rattle.kr_model.specs.declared.writes.Write.{Write}
 use Rattle.kr_model.specs.Engine.{IsEngine, outputs_left}
 use Rattle.kr_model.specs.Entries.{items_from}
-use Rattle.kr_model.specs.World.{State}
+use Rattle.kr_model.specs.World.{State, closed_of}
 use Rattle.law_published_log.specs.Following.{IsDecided, Shows}
 use Rattle.kr_shared.specs.declared.asked.Asked.{Asked}
 use Rattle.kr_shared.specs.Answers.{answered_of}
@@ -29,14 +29,15 @@ AreWaiting options log [] (w ∷ ws) = ⊥
 AreWaiting options log (a ∷ ones) [] = ⊥
 AreWaiting options log (a ∷ ones) (w ∷ ws) = IsWaitingWrite options log a w × AreWaiting options log ones ws
 
--- The engine stands for the state and all its outputs are handed out; the published list shows the log up to the committed
--- end, what is staged is the rest of the log, and the clients that wait are those of the writes that wait.
+-- The engine stands for the state and all its outputs are handed out; the published list shows the log up to the closed end,
+-- behind which the rest of the log is kept, and the clients that wait are those of the writes that wait.
 pub record Standing (w : DeskView) (s : State) (writes : List Write) : Type 0 where
   pub engine : IsEngine w.engine s writes
   pub none : outputs_left w.engine ≡ []
   pub options : w.engine.options ≡ w.shelf.options
-  pub rests : w.shelf ≡ resting w.shelf.options w.shelf.list (item_entries (pos s.world.committed) (items_from s.world.log s.world.committed))
-  pub shows : Shows s.world.log s.world.committed w.shelf.list
+  pub rests : w.shelf ≡ resting w.shelf.options w.shelf.list
+  pub unstaged : w.unstaged ≡ item_entries (pos (closed_of s.world)) (items_from s.world.log (closed_of s.world))
+  pub shows : Shows s.world.log (closed_of s.world) w.shelf.list
   pub waits : AreWaiting w.engine.options s.world.log w.waiting writes
 
 -- it stands for some

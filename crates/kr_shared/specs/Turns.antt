@@ -108,13 +108,13 @@ pin_entry seat ticket place = entries.Pin (record { seat = seat; ticket = ticket
 abbrev pub unpin_entry : ℕ → ℕ → ℤ → Entry
 unpin_entry seat ticket place = entries.Unpin (record { seat = seat; ticket = ticket; place = place })
 
--- the end is pinned; an unpin is of the job's place
+-- the closed end is pinned; an unpin is of the job's place
 abbrev pub DoesJob : Outside → DeskView → DeskView → Job → Option Reason → Type 0
 DoesJob o old new (jobs.Link event) refusal = DoesWhole o.pieces o.pieces' o.faults o.faults' old new event None refusal
 DoesJob o old new (jobs.Stop number) refusal = (refusal ≡ None) × IsQuiet o × Notes old new (entries.Stop number)
 DoesJob o old new (jobs.Write seat ticket floor call) refusal = (refusal ≡ None) × DoesWrite (int_lt old.engine.tip floor) o old new seat ticket floor call
 DoesJob o old new (jobs.Pin seat ticket floor) refusal =
-    (refusal ≡ None) × IsQuiet o × NotesUnlessAhead (int_lt old.engine.tip floor) old new seat ticket (pin_entry seat ticket old.engine.committed)
+    (refusal ≡ None) × IsQuiet o × NotesUnlessAhead (int_lt old.engine.tip floor) old new seat ticket (pin_entry seat ticket old.engine.closed)
 DoesJob o old new (jobs.Unpin seat ticket floor place) refusal =
     (refusal ≡ None) × IsQuiet o × NotesUnlessAhead (int_lt old.engine.tip floor) old new seat ticket (unpin_entry seat ticket place)
 

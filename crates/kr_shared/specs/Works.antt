@@ -1,5 +1,5 @@
 -- What a worker keeps, and which answers come of an event. This project's own.
-use Rattle.std.specs.Prelude.{◌≡◌, ◌&&◌, Bool, not, List, [], ◌∷◌, ◌++◌, Option, Some, None, is_some, if◌then◌else◌}
+use Rattle.std.specs.Prelude.{◌≡◌, ◌&&◌, ℤ, Bool, not, List, [], ◌∷◌, ◌++◌, Option, Some, None, is_some, filter, if◌then◌else◌}
 use Rattle.kr_calls.specs.declared.calls.Ask.{Ask}
 use Rattle.kr_calls.specs.declared.calls.Ask.TheVariants as asks
 use Rattle.kr_calls.specs.declared.calls.Call.{Call}
@@ -7,7 +7,7 @@ use Rattle.kr_calls.specs.declared.events.Entry.{Entry}
 use Rattle.kr_calls.specs.declared.events.Event.{Event}
 use Rattle.kr_calls.specs.declared.events.Entry.TheVariants as entries
 use Rattle.kr_calls.specs.declared.events.Event.TheVariants as events
-use Rattle.kr_calls.specs.SeatList.{end_of}
+use Rattle.kr_calls.specs.SeatList.{end_of, is_below}
 use Rattle.kr_defs.specs.declared.options.Options.{Options}
 use Rattle.kr_view.specs.CopiesRule.{GoesOn}
 use Rattle.kr_view.specs.Shelves.{Shelf}
@@ -17,23 +17,28 @@ use Rattle.kr_shared.specs.declared.answers.Asking.{Asking}
 use Rattle.kr_shared.specs.declared.asked.Asked.{Asked}
 use Rattle.kr_shared.specs.Answers.{Answering, answer_all, answer_write, answering, refusal_in}
 
--- what is published and staged, the engine, and what waits for its answer
+-- what is published and staged, the entries of the log that stand behind the closed end, the engine, and what waits for its answer
 pub record DeskView : Type 0 where
   pub shelf : Shelf
+  pub unstaged : List Entry
   pub engine : Core
   pub waiting : List Asked
 
--- no answer is staged, and nothing waits that a publish chose
-abbrev pub resting : Options → List Entry → List Entry → Shelf
-resting options list items = record { options = options; list = list; waiting = []; items = items; notes = [] }
+-- nothing is staged, and nothing waits that a publish chose
+abbrev pub resting : Options → List Entry → Shelf
+resting options list = record { options = options; list = list; waiting = []; items = []; notes = [] }
 
 -- the leadership ended in the step
 abbrev pub is_lost : Core → Core → Bool
 is_lost before after = is_some before.leading && not (is_some after.leading)
 
--- what was staged is gone with a leadership, and what the step added is staged
-abbrev pub staged_after : Bool → List Entry → List Entry → List Entry
-staged_after lost items fresh = (if lost then [] else items) ++ fresh
+-- with a leadership all goes that isn't below the committed end
+abbrev pub cut_if : Bool → ℤ → List Entry → List Entry
+cut_if lost committed entries = if lost then filter (is_below committed) entries else entries
+
+-- the entries that aren't published yet, with what a step added
+abbrev pub added_after : Bool → ℤ → List Entry → List Entry → List Entry
+added_after lost committed unstaged fresh = cut_if lost committed unstaged ++ fresh
 
 abbrev pub call_of : Ask → Option Call
 call_of (asks.Call call) = Some call

@@ -1,1 +1,2 @@
 pub mod DeskCalls
+pub mod Dropping

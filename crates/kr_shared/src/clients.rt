@@ -5,7 +5,7 @@ ghost use Rattle.std.specs.Arc.{arc_value};
 ghost use Rattle.kr_base.specs.Causes.{raised};
 ghost use Rattle.kr_shared.specs.declared.clients.SubmitFault.TheVariants as faults;
 ghost use Rattle.kr_calls.specs.Decide.{is_read, query};
-ghost use Rattle.kr_calls.specs.SeatList.{end_of, image_of};
+ghost use Rattle.kr_calls.specs.SeatList.{IsClosedList, end_of, image_of};
 ghost use Rattle.kr_queue.specs.declared.passes.Role.TheVariants as roles;
 ghost use Rattle.kr_queue.specs.Jobs.{may_push};
 ghost use Rattle.kr_queue.specs.Passes.{view, IsPassOf};
@@ -177,7 +177,7 @@ pub struct ClientSeat {
     jobs: Arc<Bell, Global>,
     // Rung by the worker when it has published what a seat is told.
     pub(crate) copies: Arc<SeatBells, Global>,
-    // The committed copies.
+    // The shown copies.
     pub(crate) reader: ReaderSeat,
     // The number of the last write, pin or unpin.
     pub(crate) ticket: u64,
@@ -268,11 +268,12 @@ impl ClientSeat {
         self.reader.misses()
     }
 
-    /// The reply to a read on the image of all that is published. It waits for nobody. NoCopy only where the seat got no
-    /// copy, and then nothing but the count has changed.
+    /// The reply to a read on the image of all that is published, where no transaction is open. It waits for nobody. NoCopy
+    /// only where the seat got no copy, and then nothing but the count has changed.
     pub fn read(&mut self, call: &Call) -> Result<Reply, CopyFault>
         requires { IsTrue (is_read call.now.request) }
         ensures onward { Onward self.old.seen self.new.seen }
+        ensures closed { OnOk result (IsClosedList self.new.seen.list) }
         ensures reply { IfOk result (λ reply. query self.new.seen.options
             (image_of self.new.seen.list) call.now.request ≡ Some reply) }
         ensures cause { HasReadCause self.old self.new result }

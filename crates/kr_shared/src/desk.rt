@@ -4,19 +4,21 @@ ghost use Rattle.std.specs.Prelude.{◌≡◌, ◌&&◌, ◌<◌, ◌++◌, ℤ,
 ghost use Rattle.std.specs.Int.{int_max};
 ghost use Rattle.kr_calls.specs.declared.events.Event.TheVariants as events;
 ghost use Rattle.kr_calls.specs.Decide.{is_read};
-ghost use Rattle.kr_calls.specs.RightAnswers.{AreRightAfter};
+ghost use Rattle.kr_calls.specs.SeatList.{is_below};
 ghost use Rattle.kr_queue.specs.Jobs.{is_fit};
-ghost use Rattle.kr_view.specs.Shelves.{IsDelayed, next_at, shown_at, with_staged};
+ghost use Rattle.kr_view.specs.Shelves.{IsDelayed, MayPublish, shown_at, with_staged};
+ghost use Rattle.kr_view.specs.Staged.{staged_above, staged_below};
 ghost use Rattle.kr_model.specs.Engine.{IsSound, IsStep, outputs_left};
 ghost use Rattle.kr_model.specs.World.{is_far};
 ghost use Rattle.law_published_log.specs.Following.{AreNotes};
 ghost use Rattle.kr_shared.specs.Answers.{aside_noted};
-ghost use Rattle.kr_shared.specs.Desks.{ComesToSame, HasSpare, IsNewDesk, IsPrepared, IsCaughtUp, DeskStands, StaysDue, aside_by, cut_if, entered_by, settled, takes_writes};
+ghost use Rattle.kr_shared.specs.Desks.{ComesToSame, HasSpare, IsNewDesk, IsPrepared, IsCaughtUp, DeskStands, StaysDue, held_back, aside_by, entered_by, settled, takes_writes};
 ghost use Rattle.kr_shared.specs.Gives.{GivesOut};
 ghost use Rattle.kr_shared.specs.Lines.{HasLineRoom, IsSeated, line_entry};
 ghost use Rattle.kr_shared.specs.Turns.{LosesLed, LosesUnless, Notes, NotesUnlessAhead, job_again, outside, write_job};
 ghost use Rattle.kr_shared.specs.Tasks.{IsTask, basis_at};
 ghost use Rattle.kr_shared.specs.Works.{IsBareNote, KeepsShown, Onwards, call_in, call_of};
+ghost use Rattle.kr_shared.specs.inner.Dropping.{left_if, up_to_below};
 ghost use Rattle.kr_shared.specs.inner.DeskCalls.{ComesBack, ComesBackCaughtUp, DeskDoesJob, DeskPins, DeskServes, DeskServesRequest, DeskServesWhole, DeskWrites};
 
 use crate::answers::{Aside, Asking, asked_by};
@@ -36,17 +38,17 @@ use std::marker::Model;
 use std::sync::Wait;
 use std::sync::ledger::Ledger;
 
-/// The engine, the publisher of its committed log, the clients that wait, and what isn't published yet for want of memory. It
-/// is not `Drop`: end it by `close`.
+/// The engine, the publisher of its log below the closed end, the clients that wait, and what isn't published yet. It is not
+/// `Drop`: end it by `close`.
 pub(crate) struct Desk {
     alloc: Global,
     publisher: Publisher,
     engine: Engine,
     line: Line,
-    // What the engine added to the log, until it is staged.
+    // What the engine added to the log, until the closed end is behind it.
     unstaged: VecDeque<Entry>,
-    // What stays staged behind the next publish is gone with a leadership.
-    cut: bool,
+    // Behind it, what the last step added.
+    fresh: VecDeque<Entry>,
 }
 
 impl Model for Desk {
@@ -59,7 +61,7 @@ impl Model for Desk {
       engine = d.engine;
       line = d.line;
       unstaged = d.unstaged.items;
-      cut = d.cut;
+      fresh = d.fresh.items;
     } };
 }
 
@@ -132,20 +134,68 @@ fn later(time: &i64, other: &i64) -> i64
     (*time).max(*other)
 }
 
-// Stages what a step added to the log, in order. What found no room stays.
-fn stage_entries(publisher: &mut Publisher, unstaged: &mut VecDeque<Entry>) -> Result<(), NoMemory>
-    ensures same { fold with_staged publisher.new unstaged.new.items
-        ≡ fold with_staged publisher.old unstaged.old.items }
+// An item or an image in place of all stands below the end.
+fn is_below(entry: &Entry, end: &i64) -> bool
+    ensures { result ≡ is_below end.now entry.now }
+{
+    match entry {
+        Entry::Item { place, .. } => place < end,
+        Entry::Load { offset, .. } => offset <= end,
+        Entry::Pin { .. } | Entry::Unpin { .. } | Entry::Answer { .. } | Entry::Stop { .. } => true,
+    }
+}
+
+// What was added last stands behind the others. What found no room stays.
+fn join(unstaged: &mut VecDeque<Entry>, fresh: &mut VecDeque<Entry>) -> Result<(), NoMemory>
+    ensures same { unstaged.new.items ++ fresh.new.items ≡ unstaged.old.items ++ fresh.old.items }
+    ensures all { OnOk result (fresh.new.items ≡ []) }
+{
+    while let Some(entry) = fresh.pop_front() {
+        if let Err(failed) = unstaged.push_back(entry) {
+            fresh.push_front_reserved(failed.value);
+            return Err(NoMemory);
+        }
+    }
+    Ok(())
+}
+
+// Stages what is below the end, in order. What found no room stays.
+fn stage_below(
+    publisher: &mut Publisher,
+    unstaged: &mut VecDeque<Entry>,
+    end: &i64,
+) -> Result<(), NoMemory>
+    ensures same { fold with_staged publisher.new (staged_below end.now unstaged.new.items)
+        ≡ fold with_staged publisher.old (staged_below end.now unstaged.old.items) }
+    ensures left { staged_above end.now unstaged.new.items
+        ≡ staged_above end.now unstaged.old.items }
     ensures keeps { KeepsShown publisher.old publisher.new }
-    ensures all { OnOk result (unstaged.new.items ≡ []) }
+    ensures all { OnOk result (staged_below end.now unstaged.new.items ≡ []) }
 {
     while let Some(entry) = unstaged.pop_front() {
+        if !is_below(&entry, end) {
+            unstaged.push_front_reserved(entry);
+            return Ok(());
+        }
         if let Err(entry) = publisher.stage(entry) {
             unstaged.push_front_reserved(entry);
             return Err(NoMemory);
         }
     }
     Ok(())
+}
+
+// What stands behind the last entry below the end goes.
+#[tactic(auto, using(crate::proofs::Dropped::dropping))]
+fn drop_behind(entries: &mut VecDeque<Entry>, end: &i64)
+    ensures { entries.new.items ≡ up_to_below end.now entries.old.items }
+{
+    while let Some(entry) = entries.pop_back() {
+        if is_below(&entry, end) {
+            entries.push_back_reserved(entry);
+            return;
+        }
+    }
 }
 
 impl Desk {
@@ -158,24 +208,29 @@ impl Desk {
             engine,
             line: Line::new(alloc),
             unstaged: VecDeque::new(alloc),
-            cut: false,
+            fresh: VecDeque::new(alloc),
         }
     }
 
     // ---- what is due is published
 
-    // Stages what the engine added to the log.
+    // Stages what the engine added to the log below its closed end.
     fn stage_entries(&mut self) -> Result<(), NoMemory>
         ensures due { StaysDue self.old self.new }
-        ensures all { OnOk result (self.new.unstaged ≡ []) }
+        ensures fresh { OnOk result (self.new.fresh ≡ []) }
+        ensures unstaged { OnOk result
+            (staged_below self.new.engine.closed self.new.unstaged ≡ []) }
     {
-        stage_entries(&mut self.publisher, &mut self.unstaged)
+        join(&mut self.unstaged, &mut self.fresh)?;
+        let end = self.engine.closed();
+        stage_below(&mut self.publisher, &mut self.unstaged, &end)
     }
 
     // Finds room for the one that waits last.
     fn seat_newest(&mut self) -> Result<(), NoMemory>
         ensures due { StaysDue self.old self.new }
         ensures unstaged { self.new.unstaged ≡ self.old.unstaged }
+        ensures fresh { self.new.fresh ≡ self.old.fresh }
         ensures seated { OnOk result (self.new.line.seated ≡ true) }
     {
         self.line.seat_newest()
@@ -183,9 +238,11 @@ impl Desk {
 
     // Stages what clients are to be told.
     fn stage_notes(&mut self) -> Result<(), NoMemory>
-        requires { self.old.unstaged ≡ [] }
+        requires fresh { self.old.fresh ≡ [] }
+        requires unstaged { staged_below self.old.engine.closed self.old.unstaged ≡ [] }
         ensures due { StaysDue self.old self.new }
         ensures unstaged { self.new.unstaged ≡ self.old.unstaged }
+        ensures fresh { self.new.fresh ≡ self.old.fresh }
         ensures all { OnOk result (self.old.line.seated ≡ true → IsSeated self.new.line) }
     {
         self.line.stage(self.alloc, &mut self.publisher)
@@ -201,32 +258,17 @@ impl Desk {
         self.stage_notes()
     }
 
-    // Publishes up to the committed end.
+    // Publishes up to the closed end.
     fn show<R: Wait>(&mut self, rt: &R) -> Result<(), NoMemory>
-        requires { AreRightAfter self.old.shelf.options self.old.shelf.list
-            (next_at self.old.engine.committed self.old.shelf) }
+        requires { MayPublish self.old.engine.closed self.old.shelf }
         ensures ok { OnOk result (self.new ≡ record self.old {
-          shelf = shown_at self.old.engine.committed self.old.shelf;
+          shelf = shown_at self.old.engine.closed self.old.shelf;
         }) }
-        ensures err { OnErr result (IsDelayed self.old.engine.committed self.old.shelf self.new.shelf
+        ensures err { OnErr result (IsDelayed self.old.engine.closed self.old.shelf self.new.shelf
             × (self.new ≡ record self.old { shelf = self.new.shelf })) }
     {
-        let end = self.engine.committed();
+        let end = self.engine.closed();
         self.publisher.publish(rt, end)
-    }
-
-    // What stays staged is gone, where a leadership was lost.
-    fn cut_staged(&mut self)
-        requires { self.old.shelf.waiting ≡ [] }
-        ensures { self.new ≡ record self.old {
-          shelf = cut_if self.old.cut self.old.shelf;
-          cut = false;
-        } }
-    {
-        if self.cut {
-            self.publisher.drop_staged();
-            self.cut = false;
-        }
     }
 
     /// Those that are told what is due are owed a ring.
@@ -242,9 +284,7 @@ impl Desk {
         ensures onwards { Onwards self.old.shelf self.new.shelf }
     {
         self.prepare()?;
-        self.show(rt)?;
-        self.cut_staged();
-        Ok(())
+        self.show(rt)
     }
 
     // ---- the engine takes an event
@@ -355,24 +395,35 @@ impl Desk {
         }
     }
 
-    // What was staged is gone with a leadership.
+    // With a leadership all goes that isn't below the committed end.
     fn drop_lost(&mut self, lost: bool)
-        requires { self.old.shelf.waiting ≡ [] }
-        ensures { self.new ≡ record self.old { shelf = cut_if lost self.old.shelf } }
+        ensures left { held_back self.new
+            ≡ left_if lost self.old.engine.committed (held_back self.old) }
+        ensures fresh { self.old.fresh ≡ [] → self.new.fresh ≡ [] }
+        ensures same { self.new ≡ record self.old {
+          unstaged = self.new.unstaged;
+          fresh = self.new.fresh;
+        } }
     {
-        if lost {
-            self.publisher.drop_staged();
+        if !lost {
+            return;
+        }
+        let end = self.engine.committed();
+        drop_behind(&mut self.fresh, &end);
+        if self.fresh.is_empty() {
+            drop_behind(&mut self.unstaged, &end);
         }
     }
 
-    // What the step added is to be staged.
+    // What the step added stands behind the others.
     fn keep_fresh(&mut self)
+        requires { self.old.fresh ≡ [] }
         ensures { self.new ≡ record self.old {
-          unstaged = self.old.engine.fresh;
+          fresh = self.old.engine.fresh;
           engine = record self.old.engine { fresh = [] };
         } }
     {
-        self.unstaged = VecDeque::from_vec(self.engine.take_fresh());
+        self.fresh = VecDeque::from_vec(self.engine.take_fresh());
     }
 
     /// Serves an event: the engine takes it, the quorum gets what it appends, and what is to be published is due. Without
@@ -390,8 +441,7 @@ impl Desk {
         requires task { IsTask self.old.engine event asking }
         ensures done { IfOk result (λ served. DeskServes Q.pieces Q.faults
             quorum.old quorum.new self.old self.new event asking served) }
-        ensures stands { OnOk result (DeskStands self.new × (self.new.cut ≡ false)
-            × AreNotes self.new.line.due) }
+        ensures stands { OnOk result (DeskStands self.new × AreNotes self.new.line.due) }
         ensures err { IfErr result (λ refused. ComesBack Q.pieces Q.faults
             refused event quorum.old quorum.new self.old self.new) }
         ensures shown { KeepsShown self.old.shelf self.new.shelf }
@@ -418,7 +468,6 @@ impl Desk {
     fn lose_led<Q: Quorum, L: Ledger>(&mut self, quorum: &mut Q, epoch: i32, steps: &mut Steps<L>)
         requires stands { DeskStands self.old }
         requires led { self.old.engine.leading ≡ Some epoch }
-        requires cut { self.old.cut ≡ false }
         requires bare { AreNotes self.old.line.due }
         ensures done { LosesLed (Q.pieces quorum.old) (Q.pieces quorum.new)
             (Q.faults quorum.old) (Q.faults quorum.new) (settled self.old) (settled self.new)
@@ -432,13 +481,12 @@ impl Desk {
         }
         let _given = self.give_out(quorum);
         let _fresh = self.engine.take_fresh();
-        self.cut = true;
+        self.drop_lost(true);
     }
 
     // The leadership is lost in which this node leads, where an append failed.
     fn lose<Q: Quorum, L: Ledger>(&mut self, quorum: &mut Q, appended: bool, steps: &mut Steps<L>)
         requires stands { DeskStands self.old }
-        requires cut { self.old.cut ≡ false }
         requires bare { AreNotes self.old.line.due }
         ensures done { LosesUnless appended (Q.pieces quorum.old) (Q.pieces quorum.new)
             (Q.faults quorum.old) (Q.faults quorum.new) (settled self.old) (settled self.new) }
@@ -627,7 +675,7 @@ impl Desk {
         self.note(note);
     }
 
-    // The committed end is pinned, unless the client has seen more of the log than there is.
+    // The closed end is pinned, unless the client has seen more of the log than there is.
     fn note_pin(&mut self, caller: Caller)
         requires stands { DeskStands self.old }
         requires rests { IsCaughtUp self.old }
@@ -636,7 +684,7 @@ impl Desk {
         ensures stands { DeskStands self.new }
         ensures shown { self.new.shelf ≡ self.old.shelf }
     {
-        let place = self.engine.committed();
+        let place = self.engine.closed();
         let note = note_of_pin(caller.seat, caller.ticket, &place);
         self.note_unless_ahead(caller, note);
     }
@@ -745,7 +793,7 @@ impl Desk {
             engine: _engine,
             line: _line,
             unstaged: _unstaged,
-            cut: _cut,
+            fresh: _fresh,
         } = self;
         publisher.close(rt);
     }

@@ -166,7 +166,7 @@ fn seat_all<R: Wait>(
         × ArePasses (arc_value parts.queue) parts.clients }
     requires engine { IsEngine parts.engine start [] × (outputs_left parts.engine ≡ [])
         × (parts.engine.options ≡ options.now) }
-    requires publisher { publisher ≡ resting options.now [] [] }
+    requires publisher { publisher ≡ resting options.now [] }
     requires readers { AreSeats options.now readers }
     ensures ok { IfOk result (λ r. AreSeated options.now (length readers) r.0 r.1 r.2) }
     ensures err { IfErr result (λ fault. fault ≡ view_faults.NoMemory) }

@@ -37,7 +37,7 @@ pub enum PinFault {
 /// What a seat asks for.
 #[derive(Clone, Copy, Drop)]
 pub(crate) enum Wanted {
-    /// That the committed end is kept.
+    /// That the closed end is kept.
     Pin,
     /// That the place is kept no more.
     Unpin { place: i64 },
@@ -185,7 +185,7 @@ impl ClientSeat {
         wait_for(rt, &self.copies, &mut self.reader, ticket, &floor, wanted)
     }
 
-    /// Pins the committed end, and waits for it: a place that isn't below the end of all that the seat had seen. The images at
+    /// Pins the closed end, and waits for it: a place that isn't below the end of all that the seat had seen. The images at
     /// the places that a seat holds are kept, until it unpins them or an image comes in place of the log. It holds at most 16.
     #[tactic(auto, using(crate::proofs::PinnedPlaces::kept_from))]
     pub fn pin<R: Wait>(&mut self, rt: &R) -> Result<i64, PinFault>

@@ -218,7 +218,7 @@ impl WorkerSeat {
     }
 
     /// Takes the next job and does it: an event of the link or a client's write is a step of the engine, what the step appends
-    /// goes to the quorum, what is committed is published, and behind it an answer for each write that ends. Where an append
+    /// goes to the quorum, what is below the closed end is published, and behind it an answer for each write that ends. Where an append
     /// failed, the leadership is lost in the same turn. Idle only where the queue was empty; after a stop each turn is
     /// Stopped. Without memory for the step the engine is as it was and the job stays, for the next turn; without memory to
     /// publish what came of a job the next turn begins with that.

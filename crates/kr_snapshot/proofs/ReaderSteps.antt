@@ -1,12 +1,12 @@
 -- What a reader holds, and how it goes on.
 use Rattle.std.proofs.Common.{◌≡◌, ◌∙◌, ℕ, ℤ, pos, negsuc, ◌+◌, ◌<◌, ◌≤◌, false, List, [], ◌∷◌, ◌++◌, length, Option, Some, None, Result, Ok, Err, refl, sym, ap, subst, arith, inl, inr}
-use Rattle.std.specs.Prelude.{take, drop, nat_lt, int_lt, if◌then◌else◌, IfOk, IsTrue, ◌≤ℤ◌}
+use Rattle.std.specs.Prelude.{take, drop, not, nat_lt, int_lt, if◌then◌else◌, IfOk, IfSome, IsTrue, ◌≤ℤ◌}
 use Rattle.std.proofs.lemmas.Bool.{cases_Bool, lt-ltb, le-ltb, cases_lt}
 use Rattle.std.proofs.lemmas.Int.{ints}
 use Rattle.std.proofs.lemmas.List.{take-append-drop, length-take-le}
-use Rattle.std.proofs.lemmas.List.Elements.{All-from_recursion}
+use Rattle.std.proofs.lemmas.List.Elements.{All-filter, All-from_recursion}
 use Rattle.kr_defs.specs.Image.{Image, empty}
-use Rattle.kr_store.specs.Images.{Images, IsAbove}
+use Rattle.kr_store.specs.Images.{AreBegunFrom, Images, IsAbove, marked}
 use Rattle.kr_wire.specs.Reading.{◌>>=◌}
 use Rattle.kr_wire.proofs.ReadingLaws.{IsBytes, bind_ok, is_ok}
 use Rattle.kr_snapshot.specs.Grammar.{IsImage}
@@ -170,6 +170,15 @@ module _ (body : Option (ℤ × Progress)) (held front rest piece : List ℕ) (m
 pub above_all : (store : Images) (offset : ℤ) → store.kept ≡ (negsuc 0, empty) ∷ [] → pos 0 ≤ℤ offset → IsAbove store.kept offset
 above_all store (pos n) kept least = rw kept (All-from_recursion (λ (k : ℤ × Image). IsTrue (int_lt k.0 (pos n))) ((negsuc 0, empty) ∷ []) (refl, tt))
 above_all store (negsuc n) kept least = absurd (omega (arith, ints))
+
+-- no transaction is open
+pub begun_from : (store : Images) (offset : ℤ) → store.begun ≡ None → store.kept_begun ≡ (negsuc 0, None) ∷ [] → AreBegunFrom (marked store offset) offset
+begun_from store offset begun kept_begun =
+    let P : ℤ × Option ℤ → Type 0 = λ b. IfSome b.1 (λ begin. IsTrue (not (int_lt begin offset))) in
+    rw (begun, kept_begun) (record {
+      tip = tt;
+      kept = All-filter (λ (b : ℤ × Option ℤ). not (int_lt b.0 offset)) P ((negsuc 0, None) ∷ (offset, None) ∷ []) (All-from_recursion P ((negsuc 0, None) ∷ (offset, None) ∷ []) (tt, (tt, tt)));
+    })
 
 -- ---- what a reader stands for
 

@@ -98,7 +98,7 @@ taken_in p = record { body = body_in p.body p.store.tip; held = p.held.items }
 -- be applied.
 abbrev pub IsBegun : Option Body → Images → Type 0
 IsBegun None images = images ≡ no_images
-IsBegun (Some b) images = (images.kept ≡ (negsuc 0, empty) ∷ []) × (pos 0 ≤ℤ b.offset) × HasRoom b.tally
+IsBegun (Some b) images = (images.kept ≡ (negsuc 0, empty) ∷ []) × (pos 0 ≤ℤ b.offset) × HasRoom b.tally × (images.begun ≡ None) × (images.kept_begun ≡ (negsuc 0, None) ∷ [])
 
 -- what is true of every reader that has seen no fault: there is nothing to judge until more bytes come
 pub record IsWaiting (p : Pieces) : Type 0 where

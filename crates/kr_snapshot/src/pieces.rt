@@ -1,6 +1,6 @@
 //! The bytes of an image as they come, in any pieces.
 
-ghost use Rattle.std.specs.Prelude.{◌≡◌, ◌≤◌, ◌<◌, ◌+◌, ◌++◌, length, drop, IfOk, IfErr, MatchResult, OnOk, Ok, Err, pos, negsuc, [], ◌∷◌, ℤ, ◌≤ℤ◌, ◌^◌, Some};
+ghost use Rattle.std.specs.Prelude.{◌≡◌, ◌≤◌, ◌<◌, ◌+◌, ◌++◌, length, drop, IfOk, IfErr, MatchResult, OnOk, Ok, Err, pos, negsuc, [], ◌∷◌, ℤ, ◌≤ℤ◌, ◌^◌, None, Some};
 ghost use Rattle.kr_defs.specs.Image.{empty};
 ghost use Rattle.kr_store.specs.Images.{no_images};
 ghost use Rattle.kr_snapshot.specs.ReaderState.{HasRoom, IsBegun, IsFault, IsUnfinished, IsWaiting, LeadsTo, Restores, Waits, body_in, progress_in, standing_in, taken_behind, taken_in};
@@ -251,12 +251,14 @@ fn close(body: Body, store: ImageStore) -> Result<(i64, ImageStore), ImageFault>
 }
 
 // Keeps the present image under the offset, and nothing else.
-#[tactic(auto, using(kr_store::proofs::Alone::alone, crate::proofs::ReaderSteps::above_all))]
+#[tactic(auto, using(kr_store::proofs::Alone::alone, crate::proofs::ReaderSteps::above_all, crate::proofs::ReaderSteps::begun_from))]
 fn keep<L: Ledger>(mut store: ImageStore, offset: i64, blank: Blank) -> Result<ImageStore, NoMemory>
     requires name { blank.name ≡ L.name }
     requires parts { blank.parts ≡ L.parts }
     requires whole { 0 < L.parts }
     requires kept { store.kept ≡ (negsuc 0, empty) ∷ [] }
+    requires begun { store.begun ≡ None }
+    requires kept_begun { store.kept_begun ≡ (negsuc 0, None) ∷ [] }
     requires natural { pos 0 ≤ℤ offset }
     ensures { IfOk result (λ s. s ≡ kept_once offset store.tip) }
 {

@@ -58,6 +58,8 @@ fn read_record<L: Ledger>(
     requires some { IsSome (last_kept store.old) }
     ensures read { LeadsTo result (progress_in tally.new store.new.tip) (reading.record_read (progress_in tally.old store.old.tip) value.now) }
     ensures kept { store.new.kept ≡ store.old.kept }
+    ensures begun { OnOk result (store.new.begun ≡ store.old.begun) }
+    ensures kept_begun { store.new.kept_begun ≡ store.old.kept_begun }
     ensures count { OnOk result (tally.new.found ≡ tally.old.found + 1) }
     ensures expected { tally.new.expected ≡ tally.old.expected }
 {
@@ -89,6 +91,8 @@ fn read_item<L: Ledger>(
     requires some { IsSome (last_kept store.old) }
     ensures read { LeadsTo result (progress_in tally.new store.new.tip) (reading.item_read (progress_in tally.old store.old.tip) item.now) }
     ensures kept { store.new.kept ≡ store.old.kept }
+    ensures begun { OnOk result (store.new.begun ≡ store.old.begun) }
+    ensures kept_begun { store.new.kept_begun ≡ store.old.kept_begun }
     ensures count { OnOk result (tally.new.found ≡ tally.old.found + 1) }
     ensures expected { tally.new.expected ≡ tally.old.expected }
 {
@@ -116,6 +120,8 @@ fn read_items<L: Ledger>(
     requires some { IsSome (last_kept store.old) }
     ensures read { LeadsTo result (progress_in tally.new store.new.tip) (reading.items_read (progress_in tally.old store.old.tip) items.now) }
     ensures kept { store.new.kept ≡ store.old.kept }
+    ensures begun { OnOk result (store.new.begun ≡ store.old.begun) }
+    ensures kept_begun { store.new.kept_begun ≡ store.old.kept_begun }
     ensures count { OnOk result (tally.new.found ≡ tally.old.found + length items.now) }
     ensures expected { tally.new.expected ≡ tally.old.expected }
 {
@@ -155,6 +161,8 @@ fn read_batch(
     requires some { IsSome (last_kept store.old) }
     ensures read { LeadsTo result (progress_in tally.new store.new.tip) (reading.batch_read (progress_in tally.old store.old.tip) batch.now) }
     ensures kept { store.new.kept ≡ store.old.kept }
+    ensures begun { OnOk result (store.new.begun ≡ store.old.begun) }
+    ensures kept_begun { store.new.kept_begun ≡ store.old.kept_begun }
     ensures room { OnOk result (HasRoom tally.new) }
 {
     let place = tally.found as i64;
@@ -212,6 +220,8 @@ pub(crate) fn read_whole(
     requires some { IsSome (last_kept store.old) }
     ensures read { LeadsTo result (progress_in tally.new store.new.tip) (reading.whole_read (progress_in tally.old store.old.tip) bytes.now) }
     ensures kept { store.new.kept ≡ store.old.kept }
+    ensures begun { OnOk result (store.new.begun ≡ store.old.begun) }
+    ensures kept_begun { store.new.kept_begun ≡ store.old.kept_begun }
     ensures room { OnOk result (HasRoom tally.new) }
 {
     let batch = decode_batch(alloc, tally.found, bytes)?;

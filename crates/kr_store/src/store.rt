@@ -8,8 +8,8 @@ ghost use Rattle.kr_defs.specs.Lookups.{Finds, FindsEntry};
 ghost use Rattle.kr_defs.specs.Map as entries;
 ghost use Rattle.kr_defs.specs.Map.{text_order, partition_order, config_order};
 ghost use Rattle.kr_defs.specs.Weight.{weight};
-ghost use Rattle.kr_store.specs.ItemAnswers.{Applies, Ticks};
-ghost use Rattle.kr_store.specs.Images.{Images, AreValid, image_of_place, brokers_at, topics_at, partitions_at, configs_at, features_at, topic_under, topic_with, next_topic, last_kept, last_image, counts_of};
+ghost use Rattle.kr_store.specs.ItemAnswers.{Applies, AppliesAt, MayStand, Ticks, made_at};
+ghost use Rattle.kr_store.specs.Images.{Images, AreValid, image_of_place, brokers_at, topics_at, partitions_at, configs_at, features_at, topic_under, topic_with, next_topic, last_kept, last_image, last_begun, counts_of};
 
 use crate::{ApplyFault, At, Counts};
 use kr_base::{NoEpoch, Steps};
@@ -111,6 +111,25 @@ pub trait Store {
         ensures calls { (images self.new).kept_made ≡ (images self.old).kept_made }
         ensures made { OnOk result ((images self.new).made ≤
             (images self.old).made + weight (images self.old).tip item.now) }
+        ensures begun { OnOk result ((images self.new).begun ≡ (images self.old).begun) }
+        ensures kept_begun { (images self.new).kept_begun ≡ (images self.old).kept_begun }
+        ensures valid { AreValid (images self.new) }
+        ensures counted { Ticks steps.old steps.new result };
+
+    /// Makes the present state what the item, which stands at the place, makes of it. The place of a transaction's begin is
+    /// kept, if it isn't yet. An item without meaning changes nothing. Without memory the present state is that of the last
+    /// kept epoch. It is one step, and after want of memory there are besides those of going back.
+    fn apply_at<L: Ledger>(
+        &mut self,
+        place: i64,
+        item: &Item,
+        steps: &mut Steps<L>,
+    ) -> Result<(), ApplyFault>
+        requires some { IsSome (last_kept (images self.old)) }
+        requires stands { MayStand (images self.old) place item.now }
+        ensures applied { AppliesAt (images self.old) (images self.new) result place item.now }
+        ensures made { OnOk result
+            ((images self.new).made ≤ made_at (images self.old) place item.now) }
         ensures valid { AreValid (images self.new) }
         ensures counted { Ticks steps.old steps.new result };
 
@@ -128,16 +147,20 @@ pub trait Store {
         ensures calls { (images self.new).kept_made ≡ (images self.old).kept_made }
         ensures made { OnOk result ((images self.new).made ≤
             (images self.old).made + weight (images self.old).tip (items.Record value.now)) }
+        ensures begun { OnOk result ((images self.new).begun ≡ (images self.old).begun) }
+        ensures kept_begun { (images self.new).kept_begun ≡ (images self.old).kept_begun }
         ensures valid { AreValid (images self.new) }
         ensures counted { Ticks steps.old steps.new result };
 
-    /// Makes the image of the last kept epoch the present one.
+    /// Makes the state of the last kept epoch the present one.
     fn revert_to_last<L: Ledger>(&mut self, steps: &mut Steps<L>)
         requires { IsSome (last_kept (images self.old)) }
         ensures tip { last_image (images self.old) ≡ Some (images self.new).tip }
         ensures kept { (images self.new).kept ≡ (images self.old).kept }
         ensures calls { (images self.new).kept_made ≡ (images self.old).kept_made }
         ensures made { (images self.new).made ≡ 0 }
+        ensures begun { (images self.new).begun ≡ last_begun (images self.old) }
+        ensures kept_begun { (images self.new).kept_begun ≡ (images self.old).kept_begun }
         ensures valid { AreValid (images self.new) }
         ensures counted { steps.old ≤ steps.new };
 }

@@ -12,7 +12,7 @@ use Rattle.kr_defs.specs.Map.{IsMap}
 use Rattle.kr_defs.specs.KeptMaps.{Kept, KeptMaps, forgotten, oldest_unmade}
 use Rattle.kr_defs.proofs.EpochCuts.{from-first}
 use Rattle.kr_timeline.specs.Chains.{map_of, Versions, AreFalling, AreTidy, is_listed}
-use Rattle.kr_timeline.specs.Intervals.{kept_of, maps_of, IsTimeline, Rise, AreCounted, is_in, is_changed, is_old, IsSettled, settled_at, settled_front, Forgets, SettlesFirst, is_first_below, touches}
+use Rattle.kr_timeline.specs.Intervals.{kept_of, maps_of, IsTimeline, Rise, AreCounted, is_in, is_changed, is_old, IsUnmade, settled_at, settled_front, Forgets, SettlesFirst, is_first_below, touches}
 use Rattle.kr_timeline.specs.declared.intervals.Interval.{Interval}
 use Rattle.kr_timeline.proofs.Bools.{or_either, and_first, or_assoc, or_false}
 use Rattle.kr_timeline.proofs.Trims.{versions_map, tidies_map, Settles, settle_keys}
@@ -189,7 +189,7 @@ module _ {K V : Type 0} {order : K → K → Ordering} (o : IsTotalOrder order) 
   timeline_settled [] left' z a = rw (z.0, z.1) a
   timeline_settled (i ∷ intervals) left' z a =
       let j : Interval K = z.0 in
-      let is : IsSettled i j = z.2 in
+      let is : IsUnmade i j = z.2 in
       let gone : Settles (is_listed order i.keys.items) i.number mid (settled_at order i mid) = settled_oldest i in
       rw (z.1, z.3) (record {
         falls = gone.falls a.falls;
@@ -209,7 +209,7 @@ module _ {K V : Type 0} {order : K → K → Ordering} (o : IsTotalOrder order) 
   unmade_settled [] left' r z = sym (ap (kept_of after) z.0)
   unmade_settled (i ∷ intervals) left' r z =
       let j : Interval K = z.0 in
-      let is : IsSettled i j = z.2 in
+      let is : IsUnmade i j = z.2 in
       let gone : Settles (is_listed order i.keys.items) i.number mid after = rw z.3 (settled_oldest i) in
       let rest : kept_of after intervals ≡ kept_of mid intervals = kept_alike mid after intervals (later_same mid after (i ∷ []) intervals now r (λ m l. gone.same m l.0)) in
       let here : map_of i.number after ≡ map_of i.number mid = gone.same i.number (omega arith) in
@@ -231,7 +231,7 @@ module _ {K V : Type 0} {order : K → K → Ordering} (o : IsTotalOrder order) 
   touches_settled [] left' c z = omega arith
   touches_settled (i ∷ intervals) left' c z =
       let j : Interval K = z.0 in
-      let is : IsSettled i j = z.2 in
+      let is : IsUnmade i j = z.2 in
       let k : Kept K V = record { epoch = i.epoch; map = map_of i.number mid; made = i.made } in
       let one : sum_by (λ (x : Kept K V). x.made) (k ∷ []) ≡ i.made + 0 = sum_by-cons (λ (x : Kept K V). x.made) k [] in
       let was : touches (i ∷ intervals) ≡ length i.keys.items + 1 + touches intervals = touches_first i intervals in
@@ -243,7 +243,7 @@ module _ {K V : Type 0} {order : K → K → Ordering} (o : IsTotalOrder order) 
   touches_still [] left' z = rw z.0 (omega arith)
   touches_still (i ∷ intervals) left' z =
       let j : Interval K = z.0 in
-      let is : IsSettled i j = z.2 in
+      let is : IsUnmade i j = z.2 in
       let was : touches (i ∷ intervals) ≡ length i.keys.items + 1 + touches intervals = touches_first i intervals in
       let now_is : touches left' ≡ length j.keys.items + 1 + touches intervals = ap touches z.1 ∙ touches_first j intervals in
       let none : length j.keys.items ≡ 0 = ap length is.keys in

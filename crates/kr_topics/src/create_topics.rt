@@ -15,7 +15,7 @@ ghost use Rattle.kr_calls.specs.Refuse.{refused_create_topics};
 ghost use Rattle.kr_rules.specs.Decisions.{AnswersEach};
 ghost use Rattle.kr_rules.specs.Progress.{place_of};
 ghost use Rattle.kr_rules.specs.Refusals.{Judges};
-ghost use Rattle.kr_store.specs.Images.{last_image};
+ghost use Rattle.kr_store.specs.Images.{IsSettled, last_image};
 ghost use Rattle.kr_topics.specs.inner.EntryRules as room;
 
 use crate::assigning::{are_assignable, first_size, lists_of};
@@ -385,6 +385,8 @@ fn decide_on<S: Store, L: Ledger>(
         (S.images store.new) d.0) }
     ensures kept { (S.images store.new).kept ≡ (S.images store.old).kept }
     ensures calls { (S.images store.new).kept_made ≡ (S.images store.old).kept_made }
+    ensures begins { (S.images store.new).kept_begun ≡ (S.images store.old).kept_begun }
+    ensures settled { IsSettled (S.images store.old) → IsSettled (S.images store.new) }
     ensures made { IfOk result (λ d. (S.images store.new).made ≤
         (S.images store.old).made + weights (S.images store.old).tip d.0) }
     ensures later { steps.old ≤ steps.new }
@@ -415,6 +417,8 @@ fn decide_create_topics<S: Store, L: Ledger>(
         (S.images store.old) (S.images store.new) d.0) }
     ensures kept { (S.images store.new).kept ≡ (S.images store.old).kept }
     ensures calls { (S.images store.new).kept_made ≡ (S.images store.old).kept_made }
+    ensures begins { (S.images store.new).kept_begun ≡ (S.images store.old).kept_begun }
+    ensures settled { IsSettled (S.images store.old) → IsSettled (S.images store.new) }
     ensures made { IfOk result (λ d. (S.images store.new).made ≤
         (S.images store.old).made + weights (S.images store.old).tip d.0) }
     ensures later { steps.old ≤ steps.new }

@@ -2,7 +2,9 @@ pub mod Tables
 pub mod Moves
 pub mod Shows
 pub mod Finds
+pub mod OpenTransactions
 pub mod Kept
+pub mod NeededEpochs
 pub mod PinnedPlaces
 pub mod Loaded
 pub mod Behind
@@ -11,6 +13,7 @@ pub mod Listed
 pub mod Misses
 pub mod Runs
 pub mod Replied
+pub mod ClosedLists
 pub mod Logged
 pub mod Sent
 pub mod Holds

@@ -6,10 +6,11 @@ use Rattle.kr_defs.specs.declared.ill.Ill.{Ill}
 use Rattle.kr_defs.specs.declared.limits.TheConstants.{PLACES_END}
 use Rattle.kr_defs.specs.declared.record.Record.{Record}
 use Rattle.kr_defs.specs.Image.{Image, empty}
+use Rattle.kr_defs.specs.LogStates.{LogState, closed}
 use Rattle.kr_defs.proofs.Tests.{both, not_true}
 use Rattle.kr_calls.specs.Deciding.{apply_records}
 use Rattle.kr_calls.specs.SeatList.{Reached, with_image, with_load}
-use Rattle.kr_store.specs.Images.{Images, kept_once}
+use Rattle.kr_store.specs.Images.{Images, kept_once, tip_state}
 use Rattle.kr_view.specs.Standing.{IsStandingAt, Loads}
 use Rattle.kr_view.proofs.Kept.{none_stand, once_stands}
 
@@ -35,7 +36,11 @@ pub loaded : (r : Reached) (offset : ℤ) (records : List Record) (made : Option
 loaded r offset records None from up err =
     ap (λ b. cond b (with_image r offset (apply_records empty records)) r) up ∙ without_meaning r offset (apply_records empty records) err
 loaded r offset records (Some store) from up is =
-    (ap (λ b. cond b (with_image r offset (apply_records empty records)) r) up ∙ ap (with_image r offset) is.0, is.1, from_start r offset from up)
+    let none_open : tip_state store ≡ closed store.tip = ap tip_state is.1 in (
+      ap (λ b. cond b (with_image r offset (apply_records empty records)) r) up ∙ ap (with_image r offset) is.0 ∙ ap (λ (s : LogState). record { state = s; end = offset }) (sym none_open),
+      is.1,
+      from_start r offset from up,
+    )
 
 pub loaded_stands : (store : Images) (offset : ℤ) → store ≡ kept_once offset store.tip → int_lt (negsuc 0) offset ≡ true → IsStandingAt store offset []
 loaded_stands store offset is from = subst (λ (x : Images). IsStandingAt x offset []) (sym is) (once_stands offset store.tip from)

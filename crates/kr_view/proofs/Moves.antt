@@ -8,6 +8,7 @@ use Rattle.kr_defs.specs.declared.options.Options.{Options}
 use Rattle.kr_calls.specs.declared.events.Entry.{Entry}
 use Rattle.kr_view.specs.declared.rule.ThreadView.{ThreadView}
 use Rattle.kr_calls.specs.RightAnswers.{AreRightAfter, AreRight}
+use Rattle.kr_calls.specs.SeatList.{IsClosedList}
 use Rattle.kr_view.specs.AtomicSteps.{SeatIsMade, Publishes, Enters}
 use Rattle.kr_view.specs.CopiesRule.{seen, unseen, FitsShowing, CopiesRuleHolds, GoesOn, Saw}
 use Rattle.kr_view.specs.Showing.{Showing, showing, showing_more}
@@ -33,6 +34,7 @@ fresh x = record { begins = (x.list, refl); options = λ e. absurd (true≢false
 pub admits : Admits CopiesRuleHolds unseen
 admits x views h = record {
   right = h.right;
+  closed = h.closed;
   fits = λ j u e. ⊎_elim (h.fits j u) (λ (is : unseen ≡ u). subst (FitsShowing x) is (fresh x)) (at_snoc views unseen u j e);
 }
 
@@ -41,21 +43,23 @@ onward : (x y : Showing) (u : ThreadView) → y.options ≡ x.options → GoesOn
 onward x y u same more fits = record { begins = goes-on-trans y.list x.list u.list more fits.begins; options = λ s. fits.options s ∙ sym same }
 
 -- what is shown goes on, and one thread sees all of it
-turned : (x y : Showing) (views : List ThreadView) (number : ℕ) → y.options ≡ x.options → GoesOn y.list x.list → AreRight y.options y.list → CopiesRuleHolds x views → CopiesRuleHolds y (set views number (seen true y.options y.list))
-turned x y views number same more right h = record {
+turned : (x y : Showing) (views : List ThreadView) (number : ℕ) → y.options ≡ x.options → GoesOn y.list x.list → AreRight y.options y.list → IsClosedList y.list → CopiesRuleHolds x views → CopiesRuleHolds y (set views number (seen true y.options y.list))
+turned x y views number same more right closed h = record {
   right = right;
+  closed = closed;
   fits = set_fits y views number (seen true y.options y.list) (λ j u _ e. onward x y u same more (h.fits j u e)) (record { begins = goes-on-refl y.list; options = λ _. refl });
 }
 
-pub turns : (pass : ℕ) (v : ThreadView) (x y : Showing) → y.options ≡ x.options → GoesOn y.list x.list → (AreRight x.options x.list → AreRight y.options y.list) → TurnsAt CopiesRuleHolds pass v x y Saw
-turns pass v x y same more right views h at =
+pub turns : (pass : ℕ) (v : ThreadView) (x y : Showing) → y.options ≡ x.options → GoesOn y.list x.list → (AreRight x.options x.list → AreRight y.options y.list) → (IsClosedList x.list → IsClosedList y.list) → TurnsAt CopiesRuleHolds pass v x y Saw
+turns pass v x y same more right closed views h at =
     let all : AreRight y.options y.list = right h.right in
     let mine : FitsShowing y v = onward x y v same more (h.fits pass v at) in
-    (seen true y.options y.list, turned x y views pass same more all h, record { later = mine.begins; is = refl; right = all; same = mine.options })
+    (seen true y.options y.list, turned x y views pass same more all (closed h.closed) h, record { later = mine.begins; is = refl; right = all; closed = closed h.closed; same = mine.options })
 
 pub forks : (pass : ℕ) (v : ThreadView) → Forks CopiesRuleHolds pass v v v
 forks pass v x views h at = record {
   right = h.right;
+  closed = h.closed;
   fits = λ j u e. ⊎_elim (set_fits x views pass v (λ i t _ at'. h.fits i t at') (h.fits pass v at) j u) (λ (is : v ≡ u). subst (FitsShowing x) is (h.fits pass v at)) (at_snoc (set views pass v) v u j e);
 }
 
@@ -64,6 +68,7 @@ merges pass v other w x views h at apart there =
     let theirs : FitsShowing x w = ⊎_elim (λ (t : (other ≡ pass) × (w ≡ w)). absurd (apart t.0)) (λ (t : (other ≢ pass) × (get_elem? views other ≡ some w)). h.fits other w t.1) (at_set views pass other w w there) in
     record {
       right = h.right;
+      closed = h.closed;
       fits = set_fits x (set views pass w) other unseen (λ j u _ e. set_fits x views pass w (λ i t _ at'. h.fits i t at') theirs j u e) (fresh x);
     }
 
@@ -75,11 +80,12 @@ seat_is_made o views h =
     let new : FitsShowing (showing o []) v = record { begins = goes-on-refl []; options = λ _. refl } in
     record {
       right = h.right;
+      closed = h.closed;
       fits = λ j u e. ⊎_elim (h.fits j u) (λ (is : v ≡ u). subst (FitsShowing (showing o [])) is new) (at_snoc views v u j e);
     }
 
 pub publishes : Publishes
-publishes x views number v more right at h = turned x (showing_more x more) views number refl (more, refl) (right-append x.options [] x.list more h.right right) h
+publishes x views number v more may at h = turned x (showing_more x more) views number refl (more, refl) (right-append x.options [] x.list more h.right may.right) may.closed h
 
 pub enters : Enters
-enters x views number v at h = turned x x views number refl (goes-on-refl x.list) h.right h
+enters x views number v at h = turned x x views number refl (goes-on-refl x.list) h.right h.closed h

@@ -1,6 +1,6 @@
 -- The pinned places of a store, and their images.
 use Rattle.std.proofs.Common.{◌≡◌, ◌∙◌, ℤ, Bool, true, false, true≢false, cond, ◌||◌, not, ◌&&◌, List, [], ◌∷◌, ◌++◌, fold, filter, find, map, refl, sym, ap, subst}
-use Rattle.std.specs.Prelude.{Option, Some, None, IsSome, IsTrue, unwrap_or, Result, Ok, Err, MatchResult}
+use Rattle.std.specs.Prelude.{Option, Some, IsSome, IsTrue, unwrap_or, Result, Ok, Err, MatchResult}
 use Rattle.std.specs.List.{AllByRecursion, list_any}
 use Rattle.std.specs.Option.{option_map}
 use Rattle.std.specs.Ordering.{int_eq}
@@ -13,12 +13,12 @@ use Rattle.kr_calls.specs.declared.pins.Pin.{Pin}
 use Rattle.kr_calls.specs.SeatList.{PinnedLog, Reached, end_of, image_below, image_of, is_new_pin, is_pinned, is_place_kept, is_same_pin, lower, nothing_pinned, oldest_place, pinned_log, pins_in, reached, with_pin, without_pin}
 use Rattle.kr_calls.proofs.KeptPlaces.{end_image, pin_images, same_at}
 use Rattle.kr_image.proofs.KeptLists.{filter_map_is, map_push}
-use Rattle.kr_store.specs.Images.{Images, forgotten, kept_at}
+use Rattle.kr_store.specs.Images.{Images, kept_at}
 use Rattle.kr_view.specs.declared.scans.ScanFault.{ScanFault}
 use Rattle.kr_view.specs.Pinned.{kept_image_at, log_in, pin_image}
 use Rattle.kr_view.specs.Scans.{AnswersAt, IsNotThere}
 use Rattle.kr_view.specs.Standing.{IsStandingAt}
-use Rattle.kr_view.proofs.Kept.{at_end, fewer_stand, forgets, one_more_stands}
+use Rattle.kr_view.proofs.Kept.{at_end, fewer_stand, is_there, one_more_stands}
 
 pub pins_are : (store : Images) (pins : List Pin) → pins_in (map (pin_image store) pins) ≡ pins
 pins_are store [] = refl
@@ -55,14 +55,13 @@ module _ (store : Images) (end : ℤ) (pins : List Pin) (pin : Pin) where
   pub pin_passed : is_new_pin log.at log.pinned pin ≡ false → log ≡ record log { pinned = with_pin log.at log.pinned pin }
   pin_passed old = ap (λ b. record log { pinned = cond b (log.pinned ++ (pin, store.tip) ∷ []) log.pinned }) (sym old)
 
-  pub unpin_taken : IsStandingAt store end pins → (left : List Pin) (oldest : ℤ) → left ≡ filter (λ other. not (is_same_pin pin other)) pins → oldest ≡ fold lower end left
-      → (log_in (forgotten store oldest) end left ≡ record log { pinned = without_pin log.pinned pin }) × IsStandingAt (forgotten store oldest) end left
-  unpin_taken s left oldest is low =
+  pub unpin_taken : IsStandingAt store end pins → (left : List Pin) → left ≡ filter (λ other. not (is_same_pin pin other)) pins
+      → (log_in store end left ≡ record log { pinned = without_pin log.pinned pin }) × IsStandingAt store end left
+  unpin_taken s left is =
       let q : Pin → Bool = λ other. not (is_same_pin pin other) in
-      let f = forgets store end (filter q pins) (fewer_stand store end pins s q) in
-      let F : List Pin × ℤ → Type 0 = λ x. (log_in (forgotten store x.1) end x.0 ≡ record log { pinned = without_pin log.pinned pin }) × IsStandingAt (forgotten store x.1) end x.0 in
-      subst F (λ i. (sym is i, sym (low ∙ ap (fold lower end) is) i))
-      (f.0 ∙ ap (λ (ps : List (Pin × Image)). record log { pinned = ps }) (sym (filter_map_is (pin_image store) (λ (p : Pin × Image). q p.0) pins)), f.1)
+      let F : List Pin → Type 0 = λ ps. (log_in store end ps ≡ record log { pinned = without_pin log.pinned pin }) × IsStandingAt store end ps in
+      subst F (sym is)
+      (ap (λ (ps : List (Pin × Image)). record log { pinned = ps }) (sym (filter_map_is (pin_image store) (λ (p : Pin × Image). q p.0) pins)), fewer_stand store end pins s q)
 
 -- the same, one by one
 module _ (store : Images) (end : ℤ) (pins left : List Pin) (pin : Pin) (s : IsStandingAt store end pins) where
@@ -72,11 +71,11 @@ module _ (store : Images) (end : ℤ) (pins left : List Pin) (pin : Pin) (s : Is
   pub taken_at : is_new_pin (log store end pins pin).at (log store end pins pin).pinned pin ≡ true → left ≡ pins ++ pin ∷ [] → IsStandingAt store end left
   taken_at new is = subst (λ (ps : List Pin). IsStandingAt store end ps) (sym is) (pin_taken store end pins pin s new).1
 
-  pub unpin_log : (new : Images) (oldest : ℤ) → left ≡ filter (λ other. not (is_same_pin pin other)) pins → oldest ≡ fold lower end left → new ≡ forgotten store oldest → log_in new end left ≡ record (log store end pins pin) { pinned = without_pin (log store end pins pin).pinned pin }
-  unpin_log new oldest is low gone = ap (λ (x : Images). log_in x end left) gone ∙ (unpin_taken store end pins pin s left oldest is low).0
+  pub unpin_log : left ≡ filter (λ other. not (is_same_pin pin other)) pins → log_in store end left ≡ record (log store end pins pin) { pinned = without_pin (log store end pins pin).pinned pin }
+  unpin_log is = (unpin_taken store end pins pin s left is).0
 
-  pub unpin_at : (new : Images) (oldest : ℤ) → left ≡ filter (λ other. not (is_same_pin pin other)) pins → oldest ≡ fold lower end left → new ≡ forgotten store oldest → IsStandingAt new end left
-  unpin_at new oldest is low gone = subst (λ (x : Images). IsStandingAt x end left) (sym gone) (unpin_taken store end pins pin s left oldest is low).1
+  pub unpin_at : left ≡ filter (λ other. not (is_same_pin pin other)) pins → IsStandingAt store end left
+  unpin_at is = (unpin_taken store end pins pin s left is).1
 
 pub ruleset taken = (taken_log, taken_at, pin_passed, unpin_log, unpin_at)
 
@@ -92,17 +91,13 @@ record HasPinned (store : Images) (pins : List Pin) (place : ℤ) : Type 0 where
   at : kept_at store place ≡ Some image
   is : option_map (λ (p : Pin × Image). p.1) (find (λ (p : Pin × Image). int_eq p.0.place place) (map (pin_image store) pins)) ≡ Some image
 
-is_there : (store : Images) (o : Option Image) → IsSome o → (image : Image) × (o ≡ Some image)
-is_there store None is = absurd cc
-is_there store (Some image) is = (image, refl)
-
 found_pin : (store : Images) (pins : List Pin) (place : ℤ) → AllByRecursion (λ pin. IsSome (kept_at store pin.place)) pins → list_any (λ pin. int_eq pin.place place) pins ≡ true → HasPinned store pins place
 found_pin store [] place there any = absurd (true≢false (sym any))
 found_pin store (pin ∷ pins) place there any =
     let found = λ (b : Bool). option_map (λ (p : Pin × Image). p.1) (cond b (Some (pin_image store pin)) (find (λ (p : Pin × Image). int_eq p.0.place place) (map (pin_image store) pins))) in
     elim (int_eq pin.place place) as (λ b. int_eq pin.place place ≡ b → (b || list_any (λ pin. int_eq pin.place place) pins) ≡ true → HasPinned store (pin ∷ pins) place) [
       | true ↦ λ is h.
-          let here = is_there store (kept_at store pin.place) there.0 in
+          let here = is_there (kept_at store pin.place) there.0 in
           record { image = here.0; at = ap (kept_at store) (sym ((Decides-int_eq pin.place place).0 is)) ∙ here.1; is = ap found is ∙ ap (λ (o : Option Image). Some (unwrap_or o empty)) here.1 }
       | false ↦ λ is h. let rest = found_pin store pins place there.1 h in record { image = rest.image; at = rest.at; is = ap found is ∙ rest.is }
     ] refl any
@@ -130,11 +125,11 @@ image_is : (list : List Entry) (place : ℤ) (image : Image) → kept_image_at (
 image_is list place image found =
     let l = pinned_log list in
     let own : l.at ≡ reached list = same_at nothing_pinned list in
-    elim (int_eq place l.at.end) as (λ b. int_eq place l.at.end ≡ b → cond b (Some l.at.image) (option_map (λ (p : Pin × Image). p.1) (find (λ (p : Pin × Image). int_eq p.0.place place) l.pinned)) ≡ Some image
+    elim (int_eq place l.at.end) as (λ b. int_eq place l.at.end ≡ b → cond b (Some l.at.state.image) (option_map (λ (p : Pin × Image). p.1) (find (λ (p : Pin × Image). int_eq p.0.place place) l.pinned)) ≡ Some image
     → ((b || list_any (λ pin. int_eq pin.place place) (pins_in l.pinned)) ≡ true) × (image ≡ image_below place list)) [
       | true ↦ λ is h. (
         refl,
-        sym (some_is l.at.image image h) ∙ ap (λ (r : Reached). r.image) own ∙ sym (end_image list) ∙ ap (λ z. image_below z list) (sym ((Decides-int_eq place l.at.end).0 is ∙ ap (λ (r : Reached). r.end) own)),
+        sym (some_is l.at.state.image image h) ∙ ap (λ (r : Reached). r.state.image) own ∙ sym (end_image list) ∙ ap (λ z. image_below z list) (sym ((Decides-int_eq place l.at.end).0 is ∙ ap (λ (r : Reached). r.end) own)),
       )
       | false ↦ λ is h. of_pinned list place image l.pinned (pin_images list) h
     ] refl found
@@ -150,7 +145,7 @@ answered list held place seen (Err fault) is found = subst (λ (l : PinnedLog). 
 pub log_end : (held : PinnedLog) (list : List Entry) → held ≡ pinned_log list → held.at.end ≡ end_of list
 log_end held list is = ap (λ (l : PinnedLog). l.at.end) is ∙ ap (λ (r : Reached). r.end) (same_at nothing_pinned list)
 
-pub log_image : (held : PinnedLog) (list : List Entry) → held ≡ pinned_log list → held.at.image ≡ image_of list
-log_image held list is = ap (λ (l : PinnedLog). l.at.image) is ∙ ap (λ (r : Reached). r.image) (same_at nothing_pinned list)
+pub log_image : (held : PinnedLog) (list : List Entry) → held ≡ pinned_log list → held.at.state.image ≡ image_of list
+log_image held list is = ap (λ (l : PinnedLog). l.at.state.image) is ∙ ap (λ (r : Reached). r.state.image) (same_at nothing_pinned list)
 
 pub ruleset ends = (log_end, log_image)

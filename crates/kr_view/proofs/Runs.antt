@@ -1,19 +1,24 @@
 -- The end rises where a run of entries changes the image.
-use Rattle.std.proofs.Common.{◌≡◌, ◌≢◌, ◌⊎◌, inl, inr, ⊎_elim, ℕ, ℤ, pos, Bool, true, false, ◌&&◌, cond, true≢false, List, [], ◌∷◌, fold, refl, sym, ap, ◌∙◌, subst, arith}
+use Rattle.std.proofs.Common.{◌≡◌, ◌≢◌, ◌⊎◌, inl, inr, ⊎_elim, ℕ, ℤ, pos, Bool, true, false, ◌&&◌, cond, true≢false, List, [], ◌∷◌, ◌+◌, ◌<◌, suc, length, get_or, drop, add-one, drop-cons, fold, refl, sym, ap, ◌∙◌, subst, arith}
 use Rattle.std.proofs.lemmas.Int.{ints}
 use Rattle.std.proofs.lemmas.List.Elements.{All-head, All-tail}
 use Rattle.std.proofs.lemmas.Bool.Decides.{Decides-int_eq}
-use Rattle.std.specs.Prelude.{◌+ℤ◌, int_lt, Result, Ok, Err}
+use Rattle.std.specs.Prelude.{◌+ℤ◌, int_lt, unsigned_abs, Result, Ok, Err}
 use Rattle.std.specs.Ordering.{int_eq}
 use Rattle.kr_defs.specs.declared.ill.Ill.{Ill}
 use Rattle.kr_defs.specs.declared.limits.TheConstants.{PLACES_END}
-use Rattle.kr_defs.specs.Apply.{apply}
-use Rattle.kr_defs.specs.Image.{Image}
+use Rattle.kr_defs.specs.LogStates.{LogState, apply_at}
 use Rattle.kr_calls.specs.declared.events.Entry.{Entry}
 use Rattle.kr_calls.specs.declared.events.Entry.TheVariants as entries
-use Rattle.kr_calls.specs.SeatList.{PinnedLog, Reached, loads_with, pinned_with, with_image}
+use Rattle.kr_calls.specs.SeatList.{PinnedLog, Reached, loads_with, pinned_with, with_outcome}
 use Rattle.kr_view.specs.Runs.{is_single, AreNoSingles}
 use Rattle.kr_view.specs.Standing.{run_with, with_run}
+
+-- an entry more of a run
+pub run_more : (entries : List Entry) (i : ℕ) (e : Entry) (now new all : Reached) → i < length entries → e ≡ get_or entries i e → new ≡ run_with now e → fold run_with now (drop i entries) ≡ all → fold run_with new (drop (i + 1) entries) ≡ all
+run_more entries i e now new all more is one before =
+    let step : drop i entries ≡ e ∷ drop (i + 1) entries = rw (add-one, drop-cons entries i e) (ap (λ (y : Entry). y ∷ drop (suc i) entries) (sym is)) in
+    ap (λ (r : Reached). fold run_with r (drop (i + 1) entries)) one ∙ ap (λ (es : List Entry). fold run_with now es) (sym step) ∙ before
 
 abbrev Rises : Reached → Reached → Type 0
 Rises r after = (after ≡ r) ⊎ (int_lt r.end after.end ≡ true)
@@ -24,14 +29,14 @@ below_next place end same = grind (arith, ints)
 through : (a b c : ℤ) → int_lt a b ≡ true → int_lt b c ≡ true → int_lt a c ≡ true
 through a b c p q = grind (arith, ints)
 
-at_end : (r : Reached) (place : ℤ) (result : Result Image Ill) (is : Bool) → int_eq place r.end ≡ is → (low : Bool) → Rises r (cond (is && low) (with_image r (place +ℤ pos 1) result) r)
-at_end r place (Ok image) true is true = inr (below_next place r.end ((Decides-int_eq place r.end).0 is))
+at_end : (r : Reached) (place : ℤ) (result : Result LogState Ill) (is : Bool) → int_eq place r.end ≡ is → (low : Bool) → Rises r (cond (is && low) (with_outcome r (place +ℤ pos 1) result) r)
+at_end r place (Ok state) true is true = inr (below_next place r.end ((Decides-int_eq place r.end).0 is))
 at_end r place (Err cause) true is true = inl refl
 at_end r place result true is false = inl refl
 at_end r place result false is low = inl refl
 
 one : (r : Reached) (e : Entry) → Rises r (run_with r e)
-one r (entries.Item place item) = at_end r place (apply r.image item) (int_eq place r.end) refl (int_lt place PLACES_END)
+one r (entries.Item place item) = at_end r place (apply_at r.state (unsigned_abs place) item) (int_eq place r.end) refl (int_lt place PLACES_END)
 one r (entries.Load offset records) = inl refl
 one r (entries.Pin pin) = inl refl
 one r (entries.Unpin pin) = inl refl

@@ -6,9 +6,10 @@ use Rattle.kr_defs.specs.declared.options.Options.{Options}
 use Rattle.kr_calls.specs.declared.events.Entry.{Entry}
 use Rattle.kr_view.specs.declared.rule.ThreadView.{ThreadView}
 use Rattle.kr_calls.specs.RightAnswers.{AreRightAfter}
+use Rattle.kr_calls.specs.SeatList.{IsClosedList}
 use Rattle.kr_view.specs.declared.run.Step.{Step}
 use Rattle.kr_view.specs.CopiesRule.{CopiesRuleHolds, Saw, seen}
-use Rattle.kr_view.specs.Showing.{Showing, showing, showing_more}
+use Rattle.kr_view.specs.Showing.{MayShow, Showing, showing, showing_more}
 use Rattle.kr_view.specs.ShownSteps.{with_step}
 use Rattle.kr_view.specs.Steps.{entries_of, entries_in, with_entries}
 use Rattle.kr_view.proofs.Moves.{turns, right-append}
@@ -28,13 +29,14 @@ Folded old new steps = new ≡ fold with_step old steps
 shows : (old new : Showing) (steps : List Step) → Folded old new steps → new ≡ showing_more old (entries_in steps)
 shows old new steps is = is ∙ all_steps old steps ∙ ap (showing old.options) (behind old.list steps)
 
-pub may_publish : (pass : ℕ) (v : ThreadView) (old new : Showing) (steps : List Step) → AreRightAfter old.options old.list (entries_in steps) → Folded old new steps → TurnsAt CopiesRuleHolds pass v old new Saw
-may_publish pass v old new steps right is =
+pub may_publish : (pass : ℕ) (v : ThreadView) (old new : Showing) (steps : List Step) → MayShow old.options old.list (entries_in steps) → Folded old new steps → TurnsAt CopiesRuleHolds pass v old new Saw
+may_publish pass v old new steps may is =
     let es = entries_in steps in
     let s = shows old new steps is in
     let o : new.options ≡ old.options = ap (λ (s : Showing). s.options) s in
     let l : new.list ≡ old.list ++ es = ap (λ (s : Showing). s.list) s in
-    turns pass v old new o (es, l) (λ before. subst (λ (y : Options × List Entry). AreRightAfter y.0 [] y.1) (λ i. (sym o i, sym l i)) (right-append old.options [] old.list es before right))
+    turns pass v old new o (es, l) (λ before. subst (λ (y : Options × List Entry). AreRightAfter y.0 [] y.1) (λ i. (sym o i, sym l i)) (right-append old.options [] old.list es before may.right))
+    (λ _. subst IsClosedList (sym l) may.closed)
 
 module _ {T E : Type 0} (old new : Showing) (steps left : List Step) where
   pub list_after : (r : Result T E) → MatchResult r (λ _. Folded old new steps × (left ≡ [])) (λ _. (new ≡ old) × (left ≡ steps))

@@ -2,7 +2,7 @@
 use Rattle.std.specs.Prelude.{◌≡◌, ℤ, List, [], ◌∷◌, ◌++◌, if◌then◌else◌}
 use Rattle.kr_defs.specs.declared.options.Options.{Options}
 use Rattle.kr_calls.specs.declared.events.Entry.{Entry}
-use Rattle.kr_view.specs.Showing.{Showing}
+use Rattle.kr_view.specs.Showing.{MayShow, Showing}
 use Rattle.kr_view.specs.Staged.{staged_above, staged_below, is_logged}
 
 -- the options, the published list, what an earlier publish chose that found no memory, and what is staged: of the log, and
@@ -27,6 +27,10 @@ next_at end s = s.waiting ++ staged_below end s.items ++ s.notes
 
 abbrev pub left_at : ℤ → Shelf → List Entry
 left_at end s = staged_above end s.items
+
+-- a publish at this end may come
+abbrev pub MayPublish : ℤ → Shelf → Type 0
+MayPublish end s = MayShow s.options s.list (next_at end s)
 
 -- after a publish at this end
 abbrev pub shown_at : ℤ → Shelf → Shelf

@@ -1,5 +1,9 @@
 -- What a publish shows of what is staged. This project's own.
 use Rattle.std.specs.Prelude.{ℤ, Bool, true, false, List, [], ◌∷◌, if◌then◌else◌}
+use Rattle.kr_defs.specs.declared.record.Item.{Item}
+use Rattle.kr_defs.specs.declared.record.Item.TheVariants as items
+use Rattle.kr_defs.specs.declared.record.Record.{Record}
+use Rattle.kr_defs.specs.declared.record.Record.TheVariants as kinds
 use Rattle.kr_calls.specs.declared.events.Entry.{Entry}
 use Rattle.kr_calls.specs.declared.events.Entry.TheVariants as entries
 use Rattle.kr_calls.specs.SeatList.{is_below}
@@ -22,3 +26,20 @@ is_logged (entries.Pin pin) = false
 is_logged (entries.Unpin pin) = false
 is_logged (entries.Answer answer) = false
 is_logged (entries.Stop number) = false
+
+-- KIP-868: a transaction begins
+abbrev pub is_begin_record : Record → Bool
+is_begin_record (kinds.BeginTransaction name) = true
+is_begin_record other = false
+
+abbrev pub is_begin_item : Item → Bool
+is_begin_item (items.Record r) = is_begin_record r
+is_begin_item items.Control = false
+
+abbrev pub is_begin : Entry → Bool
+is_begin (entries.Item place item) = is_begin_item item
+is_begin (entries.Load offset records) = false
+is_begin (entries.Pin pin) = false
+is_begin (entries.Unpin pin) = false
+is_begin (entries.Answer answer) = false
+is_begin (entries.Stop number) = false

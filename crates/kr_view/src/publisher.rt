@@ -1,8 +1,7 @@
 //! The worker's side: what is staged, and its publishing.
 
 ghost use Rattle.std.specs.Prelude.{◌≡◌, [], ◌∷◌, ◌++◌, drop, MatchResult, OnOk};
-ghost use Rattle.kr_calls.specs.RightAnswers.{AreRightAfter};
-ghost use Rattle.kr_calls.specs.SeatList.{is_below};
+ghost use Rattle.kr_calls.specs.SeatList.{IsClosedList, is_below};
 ghost use Rattle.kr_view.specs.Staged.{staged_above, staged_below, is_logged};
 ghost use Rattle.kr_view.specs.Steps.{entries_in};
 
@@ -103,7 +102,7 @@ fn choose_notes(window: &mut Window, notes: &mut VecDeque<Entry>) -> Result<(), 
 }
 
 impl Publisher {
-    ghost use Rattle.kr_view.specs.Shelves.{bare_shelf, next_at, shown_at, with_staged, IsDelayed};
+    ghost use Rattle.kr_view.specs.Shelves.{bare_shelf, shown_at, with_staged, IsDelayed, MayPublish};
 
     pub(crate) fn new(alloc: Global, copies: Copies) -> Publisher
         ensures { result
@@ -128,12 +127,14 @@ impl Publisher {
     }
 
     /// Makes visible, at one step, the staged items and images below the end, and behind them the staged pins, unpins, answers
-    /// and stops. Each of these answers is right in the entries before it, and each of these pins is of the end of those.
+    /// and stops. Each of these answers is right in the entries before it, each of these pins is of the end of those, and no
+    /// transaction is open at the end of all.
     /// Without memory what is visible is as before, and a publish at this end shows the same; a later publish shows first what
     /// this one chose.
     pub fn publish<R: Wait>(&mut self, rt: &R, end: i64) -> Result<(), NoMemory>
-        requires { AreRightAfter self.old.options self.old.list (next_at end self.old) }
-        ensures { MatchResult result (λ _. self.new ≡ shown_at end self.old) (λ _. IsDelayed end self.old self.new) }
+        requires { MayPublish end self.old }
+        ensures shown { MatchResult result (λ _. self.new ≡ shown_at end self.old) (λ _. IsDelayed end self.old self.new) }
+        ensures closed { OnOk result (IsClosedList self.new.list) }
     {
         choose_items(&mut self.window, &mut self.items, &end)?;
         choose_notes(&mut self.window, &mut self.notes)?;

@@ -1,10 +1,10 @@
 //! A reader's seat.
 
-ghost use Rattle.std.specs.Prelude.{◌≡◌, ◌≤◌, [], Some, IfOk, IsTrue};
+ghost use Rattle.std.specs.Prelude.{◌≡◌, ◌≤◌, [], Some, IfOk, IsTrue, OnOk};
 ghost use Rattle.left_right.specs.Sides.{view};
 ghost use Rattle.kr_calls.specs.Decide.{is_read, query};
 ghost use Rattle.std.specs.Option.{option_copied};
-ghost use Rattle.kr_calls.specs.SeatList.{end_of, image_of, loads_of};
+ghost use Rattle.kr_calls.specs.SeatList.{IsClosedList, end_of, image_of, loads_of};
 ghost use Rattle.kr_view.specs.AtomicSteps.{all_seen};
 ghost use Rattle.kr_view.specs.Edges.{seen_by};
 ghost use Rattle.kr_view.specs.Looks.{IsLook};
@@ -104,6 +104,7 @@ fn look_once(held: Held, number: u32, ticket: u64) -> (Held, Result<Look, CopyFa
 fn read_once(held: Held, call: &Call) -> (Held, Result<Reply, CopyFault>)
     requires { IsTrue (is_read call.now.request) }
     ensures onward { Onward (seen_by held.edge) (seen_by result.0.edge) }
+    ensures closed { OnOk result.1 (IsClosedList (seen_by result.0.edge).list) }
     ensures reply { IfOk result.1 (λ reply. query (seen_by result.0.edge).options (image_of (seen_by result.0.edge).list) call.now.request ≡ Some reply) }
     ensures cause { HasEdgeCause held.edge result.0.edge result.1 }
 {
@@ -236,12 +237,13 @@ impl ReaderSeat {
         })
     }
 
-    /// The reply to a read on the image of all that is published. It waits for nobody. NoCopy only where the seat got no
-    /// copy, and then nothing but the count has changed.
+    /// The reply to a read on the image of all that is published, where no transaction is open. It waits for nobody. NoCopy
+    /// only where the seat got no copy, and then nothing but the count has changed.
     pub fn read(&mut self, call: &Call) -> Result<Reply, CopyFault>
         requires { IsTrue (is_read call.now.request) }
         ensures same { self.new.number ≡ self.old.number }
         ensures onward { Onward self.old.seen self.new.seen }
+        ensures closed { OnOk result (IsClosedList self.new.seen.list) }
         ensures reply { IfOk result (λ reply. query self.new.seen.options (image_of self.new.seen.list) call.now.request ≡ Some reply) }
         ensures cause { HasCopyCause self.old self.new result }
     {

@@ -1,16 +1,18 @@
-//! What a copy keeps of the log: the image at the end of its entries, and those of the pinned places.
+//! What a copy keeps of the log: the state at the end of its entries, and those of the pinned places.
 
-ghost use Rattle.std.specs.Prelude.{◌≡◌, ◌<◌, ◌+ℤ◌, ◌&&◌, [], pos, negsuc, int_lt, Ok, IsTrue, IsErr, IsSome, IfOk, MatchOption, MatchResult, not, true, OnOk, OnErr, Some, fold};
+ghost use Rattle.std.specs.Prelude.{◌≡◌, ◌<◌, ◌&&◌, [], negsuc, int_lt, Ok, IsTrue, IsErr, IsSome, IfOk, MatchOption, MatchResult, not, true, false, OnOk, OnErr, Some, fold};
+ghost use Rattle.std.specs.Ordering.{int_eq};
 ghost use Rattle.kr_defs.specs.declared.limits.TheConstants.{PLACES_END as places_end};
 ghost use Rattle.kr_defs.specs.Image.{empty};
 ghost use Rattle.kr_calls.specs.Deciding.{apply_records};
-ghost use Rattle.kr_calls.specs.SeatList.{is_new_pin, is_place_kept, nothing_pinned, oldest_place, pinned_with, with_item, with_load, with_pin, without_pin};
-ghost use Rattle.kr_store.specs.Images.{kept_once, last_image, last_kept};
+ghost use Rattle.kr_calls.specs.SeatList.{is_new_pin, is_place_kept, lower, nothing_pinned, oldest_place, pinned_with, with_item, with_load, with_pin, without_pin};
+ghost use Rattle.kr_store.specs.Images.{AreBegunFrom, AreValid, IsAbove, kept_at, kept_once, last_kept, marked, reverted};
+ghost use Rattle.kr_store.specs.ItemAnswers.{AppliesAt, MayStand};
 ghost use Rattle.kr_store.specs.declared.places.At.TheVariants as places;
-ghost use Rattle.kr_view.specs.Pinned.{kept_image_at, log_in};
+ghost use Rattle.kr_view.specs.Pinned.{kept_image_at, log_in, reached_in};
 ghost use Rattle.kr_view.specs.Runs.{AreNoSingles, is_single};
 ghost use Rattle.kr_view.specs.Scans.{HasCopy, IsNotThere, IsOfCopy};
-ghost use Rattle.kr_view.specs.Standing.{IsStandingAt, Loads, StandsIf, run_with, with_run};
+ghost use Rattle.kr_view.specs.Standing.{ComesTo, IsRunningAt, IsStandingAt, KeepsMore, Loads, StandsIf, run_with, with_run};
 ghost use Rattle.kr_view.specs.Steps.{entries_of};
 
 use crate::pins::Pins;
@@ -26,8 +28,8 @@ use std::alloc::Global;
 use std::marker::{Brand, Model};
 use std::sync::ledger::{Blank, Ledger};
 
-/// A store that keeps the epochs of the end, which is the last, and of the pinned places. Its present image is that at the
-/// end. It may keep others between them.
+/// A store that keeps the epochs of the end, which is the last, and of the pinned places. Its present state is that at the
+/// end. It may keep others between them, and those at which the transactions began that are open there.
 #[derive(Drop)]
 pub(crate) struct Standing {
     store: ImageStore,
@@ -47,7 +49,32 @@ impl Model for Standing {
     ghost invariant = { λ s. IsStandingAt s.store s.end s.pins };
 }
 
-// Applies an item, where it counts, without keeping its image. It answers the end.
+// Makes of the state what the item makes of it, which stands at the place.
+fn apply_at<L: Ledger>(
+    store: &mut ImageStore,
+    place: &i64,
+    item: &Item,
+    steps: &mut Steps<L>,
+) -> Result<(), ApplyFault>
+    requires some { IsSome (last_kept store.old) }
+    requires stands { MayStand store.old place.now item.now }
+    ensures applied { AppliesAt store.old store.new result place.now item.now }
+    ensures valid { AreValid store.old × AreValid store.new }
+{
+    let _counts = store.counts();
+    store.apply_at(*place, item, steps)
+}
+
+// An item counts there.
+fn counts(place: &i64, end: &i64) -> bool
+    ensures { result ≡ (int_eq place.now end.now && int_lt place.now places_end) }
+{
+    *place == *end && *place < PLACES_END
+}
+
+// Applies an item, where it counts, and keeps besides the place of a begin. It answers the end. Without memory the state is
+// one that was kept.
+#[tactic(auto, using(crate::proofs::OpenTransactions::item_steps))]
 fn apply_item<L: Ledger>(
     store: &mut ImageStore,
     end: &i64,
@@ -55,47 +82,112 @@ fn apply_item<L: Ledger>(
     item: &Item,
     steps: &mut Steps<L>,
 ) -> Result<i64, NoMemory>
-    requires some { IsSome (last_kept store.old) }
-    ensures ok { IfOk result (λ next. record { image = store.new.tip; end = next } ≡ with_item (record { image = store.old.tip; end = end.now }) place.now item.now) }
-    ensures kept { store.new.kept ≡ store.old.kept }
-    ensures calls { store.new.kept_made ≡ store.old.kept_made }
-    ensures err { OnErr result ((last_image store.old ≡ Some store.new.tip) × (store.new.made ≡ 0)) }
+    requires runs { IsRunningAt store.old end.now }
+    ensures ok { IfOk result (λ next. reached_in store.new next
+        ≡ with_item (reached_in store.old end.now) place.now item.now) }
+    ensures comes { IfOk result (ComesTo store.old store.new end.now) }
+    ensures kept { KeepsMore store.old store.new }
 {
-    if *place != *end || *place >= PLACES_END {
+    if !counts(place, end) {
         return Ok(*end);
     }
-    match store.apply(*place, item, steps) {
+    match apply_at(store, place, item, steps) {
         Ok(()) => Ok(*place + 1),
         Err(ApplyFault::IllFormed { .. }) => Ok(*end),
         Err(ApplyFault::NoMemory) => Err(NoMemory),
     }
 }
 
-// Applies the items of a run. It answers the end. Without memory the image that was kept last is the present one.
+// Applies an entry of a run, where it is an item. It answers the end. Without memory the state is one that was kept.
+#[tactic(auto, using(crate::proofs::OpenTransactions::run_steps))]
+fn apply_entry<L: Ledger>(
+    store: &mut ImageStore,
+    end: &i64,
+    entry: &Entry,
+    steps: &mut Steps<L>,
+) -> Result<i64, NoMemory>
+    requires runs { IsRunningAt store.old end.now }
+    ensures ok { IfOk result (λ next. reached_in store.new next
+        ≡ run_with (reached_in store.old end.now) entry.now) }
+    ensures comes { IfOk result (ComesTo store.old store.new end.now) }
+    ensures kept { KeepsMore store.old store.new }
+{
+    match entry {
+        Entry::Item { place, item } => apply_item(store, end, place, item, steps),
+        Entry::Load { .. } | Entry::Pin { .. } | Entry::Unpin { .. } => Ok(*end),
+        Entry::Answer { .. } | Entry::Stop { .. } => Ok(*end),
+    }
+}
+
+// Applies the items of a run. It answers the end. Without memory the state is one that was kept.
+#[tactic(auto, using(crate::proofs::OpenTransactions::run_steps))]
 fn apply_run<L: Ledger>(
     store: &mut ImageStore,
     end: &i64,
     entries: &[Entry],
     steps: &mut Steps<L>,
 ) -> Result<i64, NoMemory>
-    requires some { IsSome (last_kept store.old) }
-    ensures ok { IfOk result (λ next. record { image = store.new.tip; end = next } ≡ fold run_with (record { image = store.old.tip; end = end.now }) entries.now) }
-    ensures kept { store.new.kept ≡ store.old.kept }
-    ensures calls { store.new.kept_made ≡ store.old.kept_made }
-    ensures err { OnErr result ((last_image store.old ≡ Some store.new.tip) × (store.new.made ≡ 0)) }
+    requires runs { IsRunningAt store.old end.now }
+    ensures ok { IfOk result (λ next. reached_in store.new next
+        ≡ fold run_with (reached_in store.old end.now) entries.now) }
+    ensures comes { IfOk result (ComesTo store.old store.new end.now) }
+    ensures kept { KeepsMore store.old store.new }
 {
     let mut at = *end;
     for entry in entries {
-        if let Entry::Item { place, item } = entry {
-            at = apply_item(store, &at, place, item, steps)?;
-        }
+        at = apply_entry(store, &at, entry, steps)?;
     }
     Ok(at)
 }
 
-// Applies the items of a run, and keeps the image at its end, besides those of the pins. It answers the end. Without memory
+// Makes the state that was kept at the end the present one.
+fn go_back<L: Ledger>(store: &mut ImageStore, end: &i64, steps: &mut Steps<L>)
+    requires { IsSome (kept_at store.old end.now) }
+    ensures back { reverted store.old end.now ≡ Some store.new }
+    ensures valid { AreValid store.old }
+{
+    let _counts = store.counts();
+    if store.revert(*end, steps).is_err() {
+        unreachable!();
+    }
+}
+
+// Keeps the present state at the end.
+fn keep(store: &mut ImageStore, end: &i64) -> Result<(), NoMemory>
+    requires { IsAbove store.old.kept end.now }
+    ensures ok { OnOk result (store.new ≡ marked store.old end.now) }
+    ensures err { OnErr result (store.new ≡ store.old) }
+    ensures valid { AreValid store.old }
+{
+    let _counts = store.counts();
+    store.mark(*end)
+}
+
+// The oldest epoch that is needed: that of the oldest place, or of the begin of the transaction that was open there.
+fn oldest_needed(store: &ImageStore, pins: &Pins, end: &i64) -> i64
+    requires { IsStandingAt store.now end.now pins.now }
+    ensures low { int_lt (fold lower end.now pins.now) result ≡ false }
+    ensures begun { AreBegunFrom store.now result }
+{
+    let oldest = pins.oldest(end);
+    let _counts = store.counts();
+    match store.open_at(at_epoch(&oldest)) {
+        Ok(begin) => begin.unwrap_or(oldest),
+        Err(NoEpoch) => oldest,
+    }
+}
+
+// Drops what isn't needed.
+fn forget<L: Ledger>(store: &mut ImageStore, pins: &Pins, end: &i64, steps: &mut Steps<L>)
+    requires { IsStandingAt store.old end.now pins.now }
+    ensures log { log_in store.new end.now pins.now ≡ log_in store.old end.now pins.now }
+    ensures stands { IsStandingAt store.new end.now pins.now }
+{
+    store.forget_below(oldest_needed(store, pins, end), steps);
+}
+
+// Applies the items of a run, and keeps the state at its end, besides those of the pins. It answers the end. Without memory
 // nothing changes.
-#[tactic(auto, using(crate::proofs::Kept::runs))]
 fn advance<L: Ledger>(
     store: &mut ImageStore,
     pins: &Pins,
@@ -110,16 +202,18 @@ fn advance<L: Ledger>(
     ensures err { OnErr result ((log_in store.new end.now pins.now ≡ log_in store.old end.now
         pins.now) × IsStandingAt store.new end.now pins.now) }
 {
-    let next = apply_run(store, end, entries, steps)?;
+    let Ok(next) = apply_run(store, end, entries, steps) else {
+        go_back(store, end, steps);
+        return Err(NoMemory);
+    };
     if next == *end {
-        store.revert_to_last(steps);
         return Ok(next);
     }
-    if let Err(NoMemory) = store.mark(next) {
-        store.revert_to_last(steps);
+    if let Err(NoMemory) = keep(store, &next) {
+        go_back(store, end, steps);
         return Err(NoMemory);
     }
-    store.forget_below(pins.oldest(&next), steps);
+    forget(store, pins, &next, steps);
     Ok(next)
 }
 
@@ -134,6 +228,8 @@ fn apply_all<L: Ledger>(
     ensures stood { IfOk result (λ all. StandsIf all (apply_records store.old.tip records.now) store.new.tip) }
     ensures kept { store.new.kept ≡ store.old.kept }
     ensures calls { store.new.kept_made ≡ store.old.kept_made }
+    ensures begun { OnOk result (store.new.begun ≡ store.old.begun) }
+    ensures kept_begun { store.new.kept_begun ≡ store.old.kept_begun }
 {
     for record in records {
         match store.apply_record(0, record, steps) {
@@ -281,7 +377,7 @@ impl Standing {
         ensures { self.new ≡ record self.old { pinned = without_pin self.old.pinned pin.now } }
     {
         self.pins.remove(pin);
-        self.store.forget_below(self.pins.oldest(&self.end), steps);
+        forget(&mut self.store, &self.pins, &self.end, steps);
     }
 
     fn take_single<L: Ledger>(
@@ -346,7 +442,7 @@ impl Standing {
 
     /// The store, whose present image is that at the end.
     pub(crate) fn store(&self) -> &ImageStore
-        ensures { result.now.tip ≡ self.now.at.image }
+        ensures { result.now.tip ≡ self.now.at.state.image }
     {
         &self.store
     }

@@ -2,9 +2,9 @@
 
 ghost use Rattle.std.specs.Prelude.{◌≡◌, true, [], ◌++◌, drop, OnOk, OnErr, MatchResult, IfOk};
 ghost use Rattle.left_right.specs.Sides.{view};
-ghost use Rattle.kr_calls.specs.RightAnswers.{AreRightAfter};
 ghost use Rattle.kr_view.specs.CopiesRule.{seen};
 ghost use Rattle.kr_view.specs.Runs.{is_single};
+ghost use Rattle.kr_view.specs.Showing.{MayShow};
 ghost use Rattle.kr_view.specs.Steps.{entries_in, HandsOver, ShowsLogOrNone};
 
 use crate::rule::{CopiesRule, Sees, ThreadView};
@@ -69,7 +69,8 @@ fn flush(copies: &mut Copies, run: &mut Run, alloc: Global) -> Result<(), NoMemo
 
 // Shows what was handed over.
 pub(crate) fn show<R: Wait>(copies: Copies, rt: &R) -> (Copies, Result<(), AllocError>)
-    requires { AreRightAfter copies.desk.shown.value.options copies.desk.shown.value.list (entries_in (drop copies.behind copies.log.items)) }
+    requires { MayShow copies.desk.shown.value.options copies.desk.shown.value.list
+        (entries_in (drop copies.behind copies.log.items)) }
     ensures list { ShowsLogOrNone result.1 copies.desk.shown.value result.0.desk.shown.value
         copies.behind copies.log.items result.0.behind result.0.log.items }
     ensures options { result.0.desk.shown.value.options ≡ copies.desk.shown.value.options }
@@ -80,7 +81,8 @@ pub(crate) fn show<R: Wait>(copies: Copies, rt: &R) -> (Copies, Result<(), Alloc
 
 // The same, where the writer stands.
 fn show_held<R: Wait>(copies: &mut Copies, rt: &R) -> Result<(), AllocError>
-    requires { AreRightAfter copies.old.desk.shown.value.options copies.old.desk.shown.value.list (entries_in (drop copies.old.behind copies.old.log.items)) }
+    requires { MayShow copies.old.desk.shown.value.options copies.old.desk.shown.value.list
+        (entries_in (drop copies.old.behind copies.old.log.items)) }
     ensures list { ShowsLogOrNone result copies.old.desk.shown.value copies.new.desk.shown.value
         copies.old.behind copies.old.log.items copies.new.behind copies.new.log.items }
     ensures options { copies.new.desk.shown.value.options ≡ copies.old.desk.shown.value.options }
@@ -90,7 +92,7 @@ fn show_held<R: Wait>(copies: &mut Copies, rt: &R) -> Result<(), AllocError>
 
 // The same, where something was handed over. Else readers have it all, and nobody is waited for.
 fn show_pending<R: Wait>(copies: &mut Copies, rt: &R) -> Result<(), AllocError>
-    requires { AreRightAfter copies.old.desk.shown.value.options copies.old.desk.shown.value.list
+    requires { MayShow copies.old.desk.shown.value.options copies.old.desk.shown.value.list
         (entries_in (drop copies.old.behind copies.old.log.items)) }
     ensures list { ShowsLogOrNone result copies.old.desk.shown.value copies.new.desk.shown.value
         copies.old.behind copies.old.log.items copies.new.behind copies.new.log.items }
@@ -144,7 +146,7 @@ impl Window {
 
     /// Shows all that was chosen, at one step. Without memory nothing changes.
     pub(crate) fn show<R: Wait>(&mut self, rt: &R) -> Result<(), NoMemory>
-        requires { AreRightAfter self.old.options self.old.list self.old.waiting }
+        requires { MayShow self.old.options self.old.list self.old.waiting }
         ensures ok { OnOk result (self.new ≡ all_shown self.old) }
         ensures err { OnErr result (self.new ≡ self.old) }
     {

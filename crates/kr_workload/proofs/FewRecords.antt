@@ -1,7 +1,8 @@
 -- An event of a session adds few records.
-use Rattle.std.proofs.Common.{◌≡◌, ◌≤◌, ℕ, suc, ℤ, pos, Bool, true, false, cond, List, [], ◌∷◌, length, refl, ap, ◌∙◌, arith}
+use Rattle.std.proofs.Common.{◌≡◌, ◌≤◌, ℕ, suc, ℤ, pos, Bool, true, false, cond, List, [], ◌∷◌, ◌++◌, length, refl, ap, ◌∙◌, arith}
 use Rattle.std.proofs.lemmas.List.{length-map}
-use Rattle.std.specs.Prelude.{filter, not, is_some, int_lt, ◌+ℤ◌, ◌&&◌, Result, Ok, Err}
+use Rattle.std.specs.Prelude.{filter, not, is_some, int_lt, ◌+ℤ◌, ◌&&◌, None, Result, Ok, Err}
+use Rattle.std.specs.Ordering.{int_eq}
 use Rattle.kr_calls.specs.declared.calls.Ask.TheVariants as asks
 use Rattle.kr_calls.specs.declared.calls.Call.{Call}
 use Rattle.kr_calls.specs.declared.events.Event.{Event}
@@ -13,8 +14,9 @@ use Rattle.kr_defs.specs.declared.options.Options.{Options}
 use Rattle.kr_defs.specs.declared.record.Item.{Item}
 use Rattle.kr_defs.specs.declared.record.Item.TheVariants as items
 use Rattle.kr_defs.specs.declared.record.Record.{Record}
+use Rattle.kr_defs.specs.declared.record.Record.TheVariants as kinds
 use Rattle.kr_defs.specs.ImageLaws.{as_items}
-use Rattle.kr_defs.specs.Log.{Log, tip}
+use Rattle.kr_defs.specs.Log.{Log, open_at, tip}
 use Rattle.kr_defs.proofs.Maps.{length-filter_le}
 use Rattle.kr_defs.proofs.Tests.{Gives, gives_done, gives_refuse}
 use Rattle.law_batch_limits.specs.Fitting.{FitsBatch}
@@ -22,11 +24,12 @@ use Rattle.law_batch_limits.proofs.FittingRecords.{requests_fit}
 use Rattle.kr_model.specs.Commit.{after_commit, commit, is_end}
 use Rattle.kr_model.specs.Entries.{entries_by, item_entries, items_from, log_entries}
 use Rattle.kr_model.specs.Events.{at_time_of, outcome}
-use Rattle.kr_model.specs.Lead.{after_lead, lead, may_begin_at}
+use Rattle.kr_model.specs.Lead.{after_lead, giving_up, in_lead, lead, may_begin_at, taking_over}
 use Rattle.kr_model.specs.Lost.{after_lost, cut, lost}
 use Rattle.kr_model.specs.Reasons as reasons
 use Rattle.kr_model.specs.Request.{after_ask, after_write, decision, is_decided, request}
 use Rattle.kr_model.specs.World.{State, World, image_of_tip, is_far, leads_in, tip_of, with_batch}
+use Rattle.kr_model.proofs.Leaderships.{control_if, lead_written}
 use Rattle.kr_model.proofs.LogEntries.{batch_written, behind, cut_behind, none_behind}
 use Rattle.kr_workload.specs.inner.Standing.{IsMade}
 use Rattle.kr_workload.specs.Summary.{is_record}
@@ -59,9 +62,20 @@ batch_grown w items few =
     let e = ap (λ (log : Log). length (items_from log (tip w.log))) (batch_written w items) ∙ ap (λ (l : List Item). length l) (behind w.log items) in
     record { few = omega (arith, e, few) }
 
-grown_if : (b : Bool) (log : Log) (v w : World) → GrowsFew log v.log → GrowsFew log w.log → GrowsFew log (cond b v w).log
-grown_if true log v w first second = first
-grown_if false log v w first second = second
+-- an item of the quorum's own, and an abort
+few_led : (at_end is_open : Bool) → length (control_if at_end ++ as_items (cond is_open (kinds.AbortTransaction None ∷ []) [])) ≤ 2
+few_led true true = omega arith
+few_led true false = omega arith
+few_led false true = omega arith
+few_led false false = omega arith
+
+led_grown : (s : State) (epoch next : ℤ) → GrowsFew s.world.log (in_lead s epoch next).log
+led_grown s epoch next =
+    let led : World = (taking_over s epoch next).world in
+    let items : List Item = control_if (int_eq next (pos s.world.committed)) ++ as_items (giving_up led) in
+    let few = few_led (int_eq next (pos s.world.committed)) (is_some (open_at led.log (tip led.log))) in
+    let e = ap (λ (log : Log). length (items_from log (tip s.world.log))) (lead_written s epoch next) ∙ ap (λ (l : List Item). length l) (behind s.world.log items) in
+    record { few = omega (arith, e, few) }
 
 written_grown : (options : Options) (s : State) (request : Request) → GrowsFew s.world.log (after_write options s request).world.log
 written_grown options s request =
@@ -84,7 +98,7 @@ module _ (options : Options) (s : State) where
   lead_few epoch next =
       gives_refuse P (reasons.already_leading s.world.leading) (is_some s.world.leading) _ (λ _. gives_refuse P (reasons.old_epoch epoch s.world.greatest) (not (int_lt s.world.greatest epoch)) _ (λ _.
       gives_refuse P (reasons.bad_next next (pos s.world.committed)) (not (may_begin_at s.world next)) _ (λ _. gives_refuse P (reasons.exhausted next) (is_far next) _ (λ _.
-      gives_done P (after_lead s epoch next) (grown_if _ s.world.log s.world (with_batch s.world (items.Control ∷ [])) (none_grown s.world.log) (batch_grown s.world (items.Control ∷ []) (omega arith)))))))
+      gives_done P (after_lead s epoch next) (led_grown s epoch next)))))
 
   commit_few : (epoch end : ℤ) → Gives P (commit s epoch end)
   commit_few epoch end =

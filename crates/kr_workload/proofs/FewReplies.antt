@@ -20,9 +20,10 @@ use Rattle.kr_defs.specs.declared.record.Record.{Record}
 use Rattle.kr_defs.proofs.Maps.{length-filter_le}
 use Rattle.kr_model.specs.declared.writes.Write.{Write}
 use Rattle.kr_model.specs.Events.{at_time_of, next_number, outcome, with_next_number}
+use Rattle.kr_model.specs.Lead.{giving_up, taking_over}
 use Rattle.kr_model.specs.Outputs.{answers_in, answers_now, append, appends, due_reply, if_accepted, images, is_open_in, outputs_by, outputs_of, replies_now, waiting_after, write_of, writes_of}
 use Rattle.kr_model.specs.Request.{decision, is_decided}
-use Rattle.kr_model.specs.World.{State, image_of_end}
+use Rattle.kr_model.specs.World.{State, closed_of, image_of_closed}
 use Rattle.kr_workload.specs.inner.Standing.{IsMade}
 use Rattle.kr_workload.specs.Summary.{replies_of}
 
@@ -97,7 +98,7 @@ module _ (options : Options) (s : State) (writes : List Write) (event : Event) w
       let a = counts_both ((appends options s event ++ images s event) ++ answers_now options s event) (answers_in after.world all) in
       let b = counts_both (appends options s event ++ images s event) (answers_now options s event) in
       let c = counts_both (appends options s event) (images s event) in
-      let d = counts_due (pos after.world.committed) (filter (λ (write : Write). not (opens write)) all) in
+      let d = counts_due (pos (closed_of after.world)) (filter (λ (write : Write). not (opens write)) all) in
       let e = length-filter_both opens (λ (write : Write). not (opens write)) (λ write. refl) all in
       let f = length-append writes (writes_of options s event) in
       omega (arith, a, b, c, d, e, f, has.none_appended, has.none_shown, has.one)
@@ -111,7 +112,7 @@ module _ (options : Options) (s : State) where
   call_has : (client : ℕ) (now : ℤ) (call : Call) → HasOne options s (events.Request client now (asks.Call call))
   call_has client now call =
       let told = counts_told client call.correlation (replies_now options s call.request) in
-      let one = one_of_both (is_read call.request) (is_some s.world.leading) (query options (image_of_end s) call.request) (refuse call.request NOT_CONTROLLER) (write_of options s client call) in record {
+      let one = one_of_both (is_read call.request) (is_some s.world.leading) (query options (image_of_closed s) call.request) (refuse call.request NOT_CONTROLLER) (write_of options s client call) in record {
         none_appended = counts_appended (is_decided s.world (asks.Call call)) s (decision options s call.request).records;
         none_shown = counts_none;
         one = omega (arith, told, one);
@@ -122,7 +123,8 @@ module _ (options : Options) (s : State) where
   has_one (events.Request client now (asks.Bare correlation fault)) made = absurd made
   has_one (events.Commit epoch end) made = let none = counts_none in record { none_appended = none; none_shown = none; one = omega (arith, none) }
   has_one (events.Lost epoch) made = let none = counts_none in record { none_appended = none; none_shown = none; one = omega (arith, none) }
-  has_one (events.Lead epoch next now) made = let none = counts_none in record { none_appended = none; none_shown = none; one = omega (arith, none) }
+  has_one (events.Lead epoch next now) made =
+      let none = counts_none in record { none_appended = counts_append (length (giving_up (taking_over s epoch next).world) == 0) _; none_shown = none; one = omega (arith, none) }
   has_one (events.Batch bytes) made = absurd made
   has_one (events.Load bytes) made = absurd made
   has_one (events.Tick now) made = absurd made

@@ -1,3 +1,4 @@
 pub mod RequestLimits
 pub mod FittingRecords
 pub mod ShortRecords
+pub mod AbortRecords

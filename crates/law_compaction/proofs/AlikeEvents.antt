@@ -1,8 +1,8 @@
 -- An event is accepted by both of two alike nodes, which stay alike, or is refused by both for the same reason.
-use Rattle.std.proofs.Common.{◌≡◌, ◌∙◌, sym, subst, ℕ, ℤ, pos, negsuc, Bool, true, false, cond, ◌+◌, List, [], ◌∷◌, length, refl, ap, arith, inl, inr}
+use Rattle.std.proofs.Common.{◌≡◌, ◌∙◌, sym, subst, ℕ, ℤ, pos, negsuc, Bool, true, false, cond, ◌+◌, ◌≤◌, List, [], ◌∷◌, ◌++◌, length, refl, ap, arith, inl, inr}
 use Rattle.std.proofs.lemmas.Int.{ints, clamps}
 use Rattle.std.proofs.lemmas.Bool.Decides.{nat_tests}
-use Rattle.std.specs.Prelude.{◌≤ℤ◌, ◌&&◌, ◌||◌, ◌-ℤ◌, Option, Some, None, Result, Ok, Err, IsTrue, int_le, int_lt, is_some, not, unsigned_abs}
+use Rattle.std.specs.Prelude.{◌≤ℤ◌, ◌&&◌, ◌||◌, ◌-ℤ◌, Option, Some, None, Result, Ok, Err, IsTrue, filter, int_le, int_lt, is_some, nat_lt, not, unsigned_abs}
 use Rattle.std.specs.Int.{int_max}
 use Rattle.std.specs.Ordering.{int_eq}
 use Rattle.std.specs.Result.{result_unwrap_or}
@@ -19,28 +19,32 @@ use Rattle.kr_defs.specs.declared.basis.Basis.{Basis}
 use Rattle.kr_defs.specs.declared.ill.Ill.{Ill}
 use Rattle.kr_defs.specs.declared.options.Options.{Options}
 use Rattle.kr_defs.specs.declared.record.Item.TheVariants as items
+use Rattle.kr_defs.specs.declared.record.Record.{Record}
+use Rattle.kr_defs.specs.declared.record.Record.TheVariants as kinds
 use Rattle.kr_defs.specs.Brokers.{stopping, unfenced}
 use Rattle.kr_defs.specs.Guard.{and_then}
 use Rattle.kr_defs.specs.Heartbeats.{begin, expired, heard}
 use Rattle.kr_defs.specs.Image.{Image}
 use Rattle.kr_defs.specs.ImageLaws.{as_items}
-use Rattle.kr_defs.specs.Log.{Log, first_ill}
-use Rattle.kr_defs.proofs.Tests.{both}
+use Rattle.kr_defs.specs.Log.{Log, closed_end_at}
+use Rattle.kr_defs.specs.LogStates.{LogState, first_ill_at}
+use Rattle.kr_defs.proofs.Tests.{both, not_false}
 use Rattle.kr_snapshot.specs.Reading.{image_of}
-use Rattle.kr_model.specs.Commit.{commit, after_commit, is_end}
+use Rattle.kr_model.specs.Commit.{commit, after_commit, ends_up_to, is_end}
 use Rattle.kr_model.specs.Events.{happens, outcome, at_time_of}
-use Rattle.kr_model.specs.Lead.{after_lead, lead, may_begin_at, up_to}
+use Rattle.kr_model.specs.Lead.{after_lead, giving_up, lead, may_begin_at, up_to}
 use Rattle.kr_model.specs.Lost.{after_lost, lost}
-use Rattle.kr_model.specs.World.{leads_in, State, with_heartbeats, image_of_tip, is_far, tip_of, with_batch}
+use Rattle.kr_model.specs.World.{leads_in, State, with_heartbeats, image_of_tip, is_far, log_with, state_of_tip, tip_of, with_batch, with_records}
 use Rattle.kr_model.specs.Reasons as reasons
 use Rattle.kr_model.specs.Batch.{batch_or, end_of, batch, take_batch, after_batch, unless_ill}
 use Rattle.kr_model.specs.Load.{image_or, load, take_image, after_load}
 use Rattle.kr_model.specs.Request.{after_ask, after_write, decision, is_decided, request}
 use Rattle.kr_model.specs.Tick.{fence_all, lapsed_contacts, tick}
 use Rattle.law_compaction.specs.ReplacedPrefix.{IsLater}
-use Rattle.law_compaction.proofs.AlikeLogs.{shortens_cut, shortens_itself, shortens_written}
-use Rattle.law_compaction.proofs.AlikeStates.{Alike, AlikeEpochs, all_fenced_alike, appended_alike, counted_alike, is_with_past, same_bases, same_images, same_times, same_tips, timed_alike, with_past, written_alike}
+use Rattle.law_compaction.proofs.AlikeLogs.{same_closed, same_open_at_tip, shortens_cut, shortens_itself, shortens_written}
+use Rattle.law_compaction.proofs.AlikeStates.{Alike, AlikeEpochs, all_fenced_alike, appended_alike, counted_alike, is_with_past, same_bases, same_images, same_states, same_times, same_tips, timed_alike, with_past, written_alike}
 use Rattle.kr_model.proofs.OrderlyStates.{IsOrderly, none_lapses, timed_orderly}
+use Rattle.kr_model.proofs.Places.{moves}
 
 module _ (before : State) where
   abbrev pub AlikeResults : Result State Reason → Result State Reason → Type 0
@@ -115,21 +119,55 @@ module _ (before : State) (options : Options) (r : State) (log : Log) (greatest 
     up_to_alike true = k
     up_to_alike false = written_alike before s r k (items.Control ∷ [])
 
-    begun_alike : Alike before (after_lead s epoch next) (after_lead r epoch next)
-    begun_alike =
-        let u : Alike before (started s) (started r) = up_to_alike (int_eq next (pos r.world.committed)) in
-        let times : time ≡ r.basis.time = (let first = k.time in omega (arith, ints, clamps, first, due)) in record {
+    pub led_times : time ≡ r.basis.time
+    led_times = let first = k.time in omega (arith, ints, clamps, first, due)
+
+    -- it leads, from this place on, and nothing is given up yet
+    abbrev pub begun : State → State
+    begun t = record { world = record (up_to t.world next) { leading = Some epoch; greatest = epoch }; basis = record t.basis { led = next } }
+
+    pub begun_so : Alike before (begun s) (begun r)
+    begun_so =
+        let u : Alike before (started s) (started r) = up_to_alike (int_eq next (pos r.world.committed)) in record {
           log = u.log;
           committed = u.committed;
+          covered = u.covered;
           ends = u.ends;
           leading = refl;
           epochs = inl refl;
           time = k.time;
           led = λ _. (due, refl);
+          contacts = k.contacts;
+          stopping = k.stopping;
+        }
+
+    pub same_given_up : giving_up (begun s).world ≡ giving_up (begun r).world
+    same_given_up = ap (λ (o : Option ℕ). cond (is_some o) (kinds.AbortTransaction None ∷ []) []) (same_open_at_tip (begun s).world.log (begun r).world.log begun_so.log)
+
+    abbrev given_up : State → List Record → State
+    given_up t records = record (begun t) { world = with_records (begun t).world records }
+
+    up_given : Alike before (given_up s (giving_up (begun s).world)) (given_up r (giving_up (begun r).world))
+    up_given =
+        subst (λ (records : List Record). Alike before (given_up s records) (given_up r (giving_up (begun r).world))) (sym same_given_up)
+        (written_alike before (begun s) (begun r) begun_so (as_items (giving_up (begun r).world)))
+
+    begun_alike : Alike before (after_lead s epoch next) (after_lead r epoch next)
+    begun_alike =
+        let behind : Image = image_of_tip (after_lead r epoch next) in
+        let image : image_of_tip (after_lead s epoch next) ≡ behind = same_images before (given_up s (giving_up (begun s).world)) (given_up r (giving_up (begun r).world)) up_given in record {
+          log = up_given.log;
+          committed = up_given.committed;
+          covered = up_given.covered;
+          ends = up_given.ends;
+          leading = up_given.leading;
+          epochs = up_given.epochs;
+          time = k.time;
+          led = λ _. (due, refl);
           contacts =
-              ap (λ (i : Image). (begin (unfenced i) (stopping i) time next).contacts) images
-              ∙ ap (λ t. (begin (unfenced (image_of_tip r)) (stopping (image_of_tip r)) t next).contacts) times;
-          stopping = ap (λ (i : Image). (begin (unfenced i) (stopping i) time next).stopping) images;
+              ap (λ (i : Image). (begin (unfenced i) (stopping i) time next).contacts) image
+              ∙ ap (λ t. (begin (unfenced behind) (stopping behind) t next).contacts) led_times;
+          stopping = ap (λ (i : Image). (begin (unfenced i) (stopping i) time next).stopping) image;
         }
 
   leads_alike : (epoch next now : ℤ) → IsDue before r (events.Lead epoch next now) → AlikeResults before (lead s epoch next) (lead r epoch next)
@@ -139,10 +177,11 @@ module _ (before : State) (options : Options) (r : State) (log : Log) (greatest 
       refused_alike before (not (may_begin_at r.world next)) (not (may_begin_at r.world next)) _ _ _ _ refl (λ _. refl) (λ _.
       refused_alike before (is_far next) (is_far next) _ _ _ _ refl (λ _. refl) (λ _. begun_alike epoch next due))))
 
-  committed_alike : (end : ℤ) → Alike before (after_commit s end) (after_commit r end)
-  committed_alike end = record {
+  committed_alike : (end : ℤ) → r.world.log.offset ≤ unsigned_abs end → Alike before (after_commit s end) (after_commit r end)
+  committed_alike end above = record {
     log = k.log;
     committed = refl;
+    covered = ap (λ c. filter (λ n. nat_lt c n) (r.world.covered ++ ends_up_to end r.world.batch_ends)) (same_closed log r.world.log k.log (unsigned_abs end) above);
     ends = refl;
     leading = refl;
     epochs = k.epochs;
@@ -155,12 +194,15 @@ module _ (before : State) (options : Options) (r : State) (log : Log) (greatest 
   commits_alike : (epoch end : ℤ) → AlikeResults before (commit s epoch end) (commit r epoch end)
   commits_alike epoch end =
       refused_alike before (not (leads_in r.world.leading epoch)) (not (leads_in r.world.leading epoch)) _ _ _ _ refl (λ _. refl) (λ _.
-      refused_alike before (not (is_end r.world end)) (not (is_end r.world end)) _ _ _ _ refl (λ _. ap (λ n. reasons.bad_commit end (pos r.world.committed) (pos n)) tips) (λ _. committed_alike end))
+      refused_alike before (not (is_end r.world end)) (not (is_end r.world end)) _ _ _ _ refl (λ _. ap (λ n. reasons.bad_commit end (pos r.world.committed) (pos n)) tips) (λ ends.
+      let m = moves r.world.log (tip_of r) r.world.committed r.world.batch_ends end o.rises.ends (not_false (is_end r.world end) ends) in
+      committed_alike end (let up = m.above in let low = o.rises.started in omega (arith, up, low))))
 
   ended_alike : Alike before (after_lost s) (after_lost r)
   ended_alike = record {
     log = shortens_cut log r.world.log k.log r.world.committed o.rises.started;
     committed = refl;
+    covered = refl;
     ends = refl;
     leading = refl;
     epochs = k.epochs;
@@ -178,6 +220,11 @@ module _ (before : State) (options : Options) (r : State) (log : Log) (greatest 
   followed_alike batch = record {
     log = shortens_written log r.world.log k.log batch.items;
     committed = ap (λ n. n + length batch.items) tips;
+    covered =
+        let end : ℕ = tip_of r + length batch.items in
+        ap (λ t. filter (λ n. nat_lt (closed_end_at (log_with log batch.items) (t + length batch.items)) n) (r.world.covered ++ (t + length batch.items) ∷ [])) tips
+        ∙ ap (λ c. filter (λ n. nat_lt c n) (r.world.covered ++ end ∷ []))
+        (same_closed (log_with log batch.items) (log_with r.world.log batch.items) (shortens_written log r.world.log k.log batch.items) end (omega arith));
     ends = refl;
     leading = refl;
     epochs = k.epochs;
@@ -191,9 +238,9 @@ module _ (before : State) (options : Options) (r : State) (log : Log) (greatest 
   batch_alike batch =
       refused_alike before (not (int_eq batch.base (pos r.world.committed))) (not (int_eq batch.base (pos r.world.committed))) _ _ _ _ refl (λ _. refl) (λ _.
       refused_alike before (is_far (end_of batch)) (is_far (end_of batch)) _ _ _ _ refl (λ _. refl) (λ _.
-      subst (λ (i : Image). AlikeResults before (unless_ill (first_ill i (pos (tip_of s)) batch.items) (after_batch s batch)) (unless_ill (first_ill (image_of_tip r) (pos (tip_of r)) batch.items) (after_batch r batch))) (sym images)
-      (subst (λ n. AlikeResults before (unless_ill (first_ill (image_of_tip r) (pos n) batch.items) (after_batch s batch)) (unless_ill (first_ill (image_of_tip r) (pos (tip_of r)) batch.items) (after_batch r batch))) (sym tips)
-      (ill_alike before (first_ill (image_of_tip r) (pos (tip_of r)) batch.items) (after_batch s batch) (after_batch r batch) (followed_alike batch)))))
+      subst (λ (t : LogState). AlikeResults before (unless_ill (first_ill_at t (tip_of s) batch.items) (after_batch s batch)) (unless_ill (first_ill_at (state_of_tip r) (tip_of r) batch.items) (after_batch r batch))) (sym (same_states before s r k))
+      (subst (λ n. AlikeResults before (unless_ill (first_ill_at (state_of_tip r) n batch.items) (after_batch s batch)) (unless_ill (first_ill_at (state_of_tip r) (tip_of r) batch.items) (after_batch r batch))) (sym tips)
+      (ill_alike before (first_ill_at (state_of_tip r) (tip_of r) batch.items) (after_batch s batch) (after_batch r batch) (followed_alike batch)))))
 
   follows_alike : (bytes : List ℕ) → AlikeResults before (batch s bytes) (batch r bytes)
   follows_alike bytes =
@@ -204,6 +251,7 @@ module _ (before : State) (options : Options) (r : State) (log : Log) (greatest 
   loaded_alike offset image = record {
     log = shortens_itself (record { offset = offset; image = image; items = [] });
     committed = refl;
+    covered = refl;
     ends = refl;
     leading = refl;
     epochs = k.epochs;

@@ -1,6 +1,6 @@
 -- Two alike nodes give out the same, the numbers of events in refusals aside.
 use Rattle.std.proofs.Common.{◌≡◌, ◌∙◌, sym, subst, ℕ, ℤ, pos, Bool, true, false, cond, List, [], ◌∷◌, ◌++◌, length, map, refl, ap}
-use Rattle.std.specs.Prelude.{◌==◌, Option, Some, None, Result, Ok, Err, filter, is_some, not, option_to_list}
+use Rattle.std.specs.Prelude.{◌==◌, ◌≤ℤ◌, Option, Some, None, Result, Ok, Err, filter, is_some, not, option_to_list}
 use Rattle.kr_batch.specs.BatchBytes.{batch_bytes}
 use Rattle.kr_calls.specs.declared.calls.Ask.{Ask}
 use Rattle.kr_calls.specs.declared.calls.Call.{Call}
@@ -20,7 +20,7 @@ use Rattle.kr_defs.specs.declared.record.Record.{Record}
 use Rattle.kr_defs.specs.Image.{Image}
 use Rattle.kr_defs.specs.ImageLaws.{as_items}
 use Rattle.kr_defs.specs.Log.{Log}
-use Rattle.kr_defs.proofs.Tests.{both}
+use Rattle.kr_defs.proofs.Tests.{Gives, both}
 use Rattle.kr_snapshot.specs.ImageText.{image_text}
 use Rattle.kr_model.specs.declared.writes.Write.{Write}
 use Rattle.kr_model.specs.Events.{happens, outcome, at_time_of}
@@ -28,11 +28,12 @@ use Rattle.kr_model.specs.Outputs.{answers, answers_in, answers_now, append, app
 use Rattle.kr_model.specs.Reasons.{led_epoch}
 use Rattle.kr_model.specs.Request.{after_ask, decision, is_decided}
 use Rattle.kr_model.specs.Tick.{fence, fencing_of, lapsed_contacts}
-use Rattle.kr_model.specs.World.{State, image_of_end, image_of_tip, tip_of}
+use Rattle.kr_model.specs.Lead.{giving_up, taking_over}
+use Rattle.kr_model.specs.World.{State, closed_of, image_of_closed, image_of_tip, tip_of}
 use Rattle.law_compaction.specs.ReplacedPrefix.{IsLater, unnumbered}
-use Rattle.law_compaction.proofs.AlikeEvents.{AlikeResults, asked_alike, at_time, outcomes, same_decided, same_lapsed, stays_alike}
-use Rattle.law_compaction.proofs.AlikeStates.{Alike, fenced_alike, is_with_past, same_bases, same_ends, same_images, same_times, same_tips, with_past}
-use Rattle.kr_model.proofs.OrderlyStates.{IsOrderly, none_lapses, timed_orderly}
+use Rattle.law_compaction.proofs.AlikeEvents.{AlikeResults, IsDue, asked_alike, at_time, begun, begun_so, is_due, led_times, outcomes, same_decided, same_given_up, same_lapsed, stays_alike}
+use Rattle.law_compaction.proofs.AlikeStates.{Alike, fenced_alike, is_with_past, same_bases, same_closed_ends, same_closed_images, same_images, same_times, same_tips, with_past}
+use Rattle.kr_model.proofs.OrderlyStates.{IsOrderly, goes_on, none_lapses, stays_orderly, timed_orderly}
 
 -- ---- batches
 
@@ -93,18 +94,26 @@ module _ (before : State) (options : Options) (r : State) (log : Log) (greatest 
       append_by call.request (is_decided r.world (asks.Call call)) (λ is. (both (is_some r.world.leading) (not (is_read call.request)) is).0)
   same_append_for (asks.Bare correlation fault) = refl
 
-  same_appends : (event : Event) → appends options s event ≡ appends options r event
-  same_appends (events.Lead epoch next now) = refl
-  same_appends (events.Commit epoch end) = refl
-  same_appends (events.Lost epoch) = refl
-  same_appends (events.Batch bytes) = refl
-  same_appends (events.Load bytes) = refl
-  same_appends (events.Tick now) = fencings_by r.world.leading refl
-  same_appends (events.Request client now ask) = same_append_for ask
-  same_appends events.Image = refl
+  -- the abort of a new leader
+  abort_by : (epoch next : ℤ) → before.basis.time ≤ℤ r.basis.time → append (taking_over s epoch next) (giving_up (taking_over s epoch next).world) ≡ append (taking_over r epoch next) (giving_up (taking_over r epoch next).world)
+  abort_by epoch next due =
+      let first = begun before options r log greatest count time led k o epoch next due s in
+      let second = begun before options r log greatest count time led k o epoch next due r in
+      ap (λ (records : List Record). append (taking_over s epoch next) records) (same_given_up before options r log greatest count time led k o epoch next due)
+      ∙ same_append before options (giving_up (taking_over r epoch next).world) first second (begun_so before options r log greatest count time led k o epoch next due) (led_times before options r log greatest count time led k o epoch next due)
 
-  committed_image : image_of_end s ≡ image_of_end r
-  committed_image = same_ends before s r k o.rises.started
+  same_appends : (event : Event) → IsDue before r event → appends options s event ≡ appends options r event
+  same_appends (events.Lead epoch next now) due = abort_by epoch next due.1
+  same_appends (events.Commit epoch end) due = refl
+  same_appends (events.Lost epoch) due = refl
+  same_appends (events.Batch bytes) due = refl
+  same_appends (events.Load bytes) due = refl
+  same_appends (events.Tick now) due = fencings_by r.world.leading refl
+  same_appends (events.Request client now ask) due = same_append_for ask
+  same_appends events.Image due = refl
+
+  closed_image : image_of_closed s ≡ image_of_closed r
+  closed_image = same_closed_images before s r k o.rises
 
   same_image : (event : Event) → images s event ≡ images r event
   same_image (events.Lead epoch next now) = refl
@@ -114,7 +123,9 @@ module _ (before : State) (options : Options) (r : State) (log : Log) (greatest 
   same_image (events.Load bytes) = refl
   same_image (events.Tick now) = refl
   same_image (events.Request client now ask) = refl
-  same_image events.Image = ap (λ (i : Image). given.Image (image_text (pos r.world.committed) i) ∷ []) committed_image
+  same_image events.Image =
+      ap (λ n. given.Image (image_text (pos n) (image_of_closed s)) ∷ []) (same_closed_ends before s r k o.rises.started)
+      ∙ ap (λ (i : Image). given.Image (image_text (pos (closed_of r.world)) i) ∷ []) closed_image
 
   same_answers_now : (event : Event) → answers_now options s event ≡ answers_now options r event
   same_answers_now (events.Lead epoch next now) = refl
@@ -124,7 +135,7 @@ module _ (before : State) (options : Options) (r : State) (log : Log) (greatest 
   same_answers_now (events.Load bytes) = refl
   same_answers_now (events.Tick now) = refl
   same_answers_now (events.Request client now (asks.Call call)) =
-      ap (λ (i : Image). map (given.Reply client call.correlation) (cond (is_read call.request) (option_to_list (query options i call.request)) (cond (is_some r.world.leading) [] (refuse call.request NOT_CONTROLLER ∷ [])))) committed_image
+      ap (λ (i : Image). map (given.Reply client call.correlation) (cond (is_read call.request) (option_to_list (query options i call.request)) (cond (is_some r.world.leading) [] (refuse call.request NOT_CONTROLLER ∷ [])))) closed_image
   same_answers_now (events.Request client now (asks.Bare correlation fault)) = refl
   same_answers_now events.Image = refl
 
@@ -161,17 +172,18 @@ module _ (before : State) (options : Options) (r : State) (log : Log) (greatest 
   same_writes (events.Request client now (asks.Bare correlation fault)) = refl
   same_writes events.Image = refl
 
-  same_answers : (a b : State) → Alike before a b → (xs ys : List Write) → xs ≡ ys → answers_in a.world xs ≡ answers_in b.world ys
-  same_answers a b alike xs ys is =
-      ap (λ l. answers l (pos a.world.committed) xs) alike.leading ∙ (ap (λ c. answers b.world.leading (pos c) xs) alike.committed ∙ ap (answers_in b.world) is)
+  same_answers : (a b : State) → Alike before a b → IsOrderly b → (xs ys : List Write) → xs ≡ ys → answers_in a.world xs ≡ answers_in b.world ys
+  same_answers a b alike orderly xs ys is =
+      ap (λ l. answers l (pos (closed_of a.world)) xs) alike.leading
+      ∙ (ap (λ c. answers b.world.leading (pos c) xs) (same_closed_ends before a b alike orderly.rises.started) ∙ ap (answers_in b.world) is)
 
-  pub same_given : (writes : List Write) (event : Event) (a b : Result State Reason) → AlikeResults before a b → map unnumbered (outputs_by options s writes event a) ≡ map unnumbered (outputs_by options r writes event b)
-  same_given writes event (Ok a) (Ok b) alike =
-      ap (map unnumbered) (four_same _ _ _ _ _ _ _ _ (same_appends event) (same_image event) (same_answers_now event)
-      (same_answers a b alike (writes ++ writes_of options s event) (writes ++ writes_of options r event) (ap (λ new. writes ++ new) (same_writes event))))
-  same_given writes event (Err x) (Err y) alike = ap (λ reason. given.Refused 0 reason ∷ []) alike
-  same_given writes event (Ok a) (Err y) alike = absurd alike
-  same_given writes event (Err x) (Ok b) alike = absurd alike
+  pub same_given : (writes : List Write) (event : Event) (a b : Result State Reason) → IsDue before r event → Gives IsOrderly b → AlikeResults before a b → map unnumbered (outputs_by options s writes event a) ≡ map unnumbered (outputs_by options r writes event b)
+  same_given writes event (Ok a) (Ok b) due orderly alike =
+      ap (map unnumbered) (four_same _ _ _ _ _ _ _ _ (same_appends event due) (same_image event) (same_answers_now event)
+      (same_answers a b alike (orderly b refl) (writes ++ writes_of options s event) (writes ++ writes_of options r event) (ap (λ new. writes ++ new) (same_writes event))))
+  same_given writes event (Err x) (Err y) due orderly alike = ap (λ reason. given.Refused 0 reason ∷ []) alike
+  same_given writes event (Ok a) (Err y) due orderly alike = absurd alike
+  same_given writes event (Err x) (Ok b) due orderly alike = absurd alike
 
 accepted_same : (before : State) (a b : Result State Reason) → AlikeResults before a b → (xs ys : List Write) → xs ≡ ys → if_accepted a xs ≡ if_accepted b ys
 accepted_same before (Ok a) (Ok b) alike xs ys is = is
@@ -200,7 +212,7 @@ module _ (before : State) (options : Options) (s r : State) (k : Alike before s 
   outputs_alike =
       subst (λ (x : State). map unnumbered (outputs_by options x writes event (outcome options t event)) ≡ map unnumbered (outputs_by options u writes event (outcome options u event))) (sym same)
       (same_given before options u t.world.log t.world.greatest t.world.count t.basis.time t.basis.led (subst (λ (x : State). Alike before x u) same alike) (timed_orderly r event o) writes event
-      (outcome options t event) (outcome options u event) results)
+      (outcome options t event) (outcome options u event) (is_due before r o event later) (goes_on options u (timed_orderly r event o) event) results)
 
   new_same : new_writes options s event ≡ new_writes options r event
   new_same =
@@ -211,6 +223,7 @@ module _ (before : State) (options : Options) (s r : State) (k : Alike before s 
   pub waiting_alike : waiting_after options s writes event ≡ waiting_after options r writes event
   waiting_alike =
       let then : Alike before (happens options s event) (happens options r event) = stays_alike before options s r k o event later in
-      ap (λ l. filter (is_open l (pos (happens options s event).world.committed)) (writes ++ new_writes options s event)) then.leading
-      ∙ (ap (λ c. filter (is_open (happens options r event).world.leading (pos c)) (writes ++ new_writes options s event)) then.committed
+      ap (λ l. filter (is_open l (pos (closed_of (happens options s event).world))) (writes ++ new_writes options s event)) then.leading
+      ∙ (ap (λ c. filter (is_open (happens options r event).world.leading (pos c)) (writes ++ new_writes options s event))
+      (same_closed_ends before (happens options s event) (happens options r event) then (stays_orderly options r event o).rises.started)
       ∙ ap (λ new. filter (is_open_in (happens options r event).world) (writes ++ new)) new_same)

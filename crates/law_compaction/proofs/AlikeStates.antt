@@ -13,12 +13,14 @@ use Rattle.kr_defs.specs.declared.record.Item.{Item}
 use Rattle.kr_defs.specs.Heartbeats.{Heartbeats, heard, leave}
 use Rattle.kr_defs.specs.Image.{Image}
 use Rattle.kr_defs.specs.ImageLaws.{as_items}
-use Rattle.kr_defs.specs.Log.{Log, tip}
+use Rattle.kr_defs.specs.Log.{Log, closed_end_at, tip}
+use Rattle.kr_defs.proofs.StateLogs.{closed_end_between}
 use Rattle.kr_model.specs.Events.{with_next_number, time_after, at_time_of}
 use Rattle.kr_model.specs.Tick.{fence, fence_all, fencing_of}
-use Rattle.kr_model.specs.World.{State, with_heartbeats, image_of_end, image_of_tip, tip_of, with_batch, log_with}
-use Rattle.law_compaction.proofs.AlikeLogs.{Shortens, same_seen, same_seen_at_tip, same_tip, shortens_written}
-use Rattle.kr_model.proofs.OrderlyStates.{not_earlier, through}
+use Rattle.kr_model.specs.World.{State, with_heartbeats, closed_of, image_of_closed, image_of_tip, seen_at, state_of_tip, tip_of, with_batch, log_with}
+use Rattle.law_compaction.proofs.AlikeLogs.{Shortens, same_closed, same_seen, same_seen_at_tip, same_state_at_tip, same_tip, shortens_written}
+use Rattle.kr_model.proofs.KeptImages.{not_higher}
+use Rattle.kr_model.proofs.OrderlyStates.{Rises, not_earlier, through}
 
 -- the greatest epochs are the same, or both at most that of the prefix, in which some epoch was led
 abbrev pub AlikeEpochs : ℤ → ℤ → ℤ → Type 0
@@ -29,6 +31,7 @@ AlikeEpochs greatest a b = (a ≡ b) ⊎ ((int_eq greatest (negsuc 0) ≡ false)
 pub record Alike (before s r : State) : Type 0 where
   pub log : Shortens s.world.log r.world.log
   pub committed : s.world.committed ≡ r.world.committed
+  pub covered : s.world.covered ≡ r.world.covered
   pub ends : s.world.batch_ends ≡ r.world.batch_ends
   pub leading : s.world.leading ≡ r.world.leading
   pub epochs : AlikeEpochs before.world.greatest s.world.greatest r.world.greatest
@@ -39,33 +42,34 @@ pub record Alike (before s r : State) : Type 0 where
 
 -- ---- by parts
 
-abbrev made_of : Log → ℕ → List ℕ → Option ℤ → ℤ → ℕ → ℤ → ℤ → List Contact → List Stopping → State
-made_of log committed ends leading greatest count time led contacts stopping = record {
-  world = record { log = log; committed = committed; batch_ends = ends; leading = leading; greatest = greatest; count = count };
+abbrev made_of : Log → ℕ → List ℕ → List ℕ → Option ℤ → ℤ → ℕ → ℤ → ℤ → List Contact → List Stopping → State
+made_of log committed covered ends leading greatest count time led contacts stopping = record {
+  world = record { log = log; committed = committed; covered = covered; batch_ends = ends; leading = leading; greatest = greatest; count = count };
   basis = record { time = time; led = led; contacts = contacts; stopping = stopping };
 }
 
 -- the state with another log, and with another past
 abbrev pub with_past : State → Log → ℤ → ℕ → ℤ → ℤ → State
 with_past r log greatest count time led =
-    made_of log r.world.committed r.world.batch_ends r.world.leading greatest count time led r.basis.contacts r.basis.stopping
+    made_of log r.world.committed r.world.covered r.world.batch_ends r.world.leading greatest count time led r.basis.contacts r.basis.stopping
 
-same_parts : (log : Log) (greatest : ℤ) (count : ℕ) (time led : ℤ) (committed committed′ : ℕ) (ends ends′ : List ℕ) (leading leading′ : Option ℤ) (contacts contacts′ : List Contact) (stopping stopping′ : List Stopping)
-    → committed ≡ committed′ → ends ≡ ends′ → leading ≡ leading′ → contacts ≡ contacts′ → stopping ≡ stopping′
-    → made_of log committed ends leading greatest count time led contacts stopping ≡ made_of log committed′ ends′ leading′ greatest count time led contacts′ stopping′
-same_parts log greatest count time led committed committed′ ends ends′ leading leading′ contacts contacts′ stopping stopping′ a b c d e =
-    ap (λ x. made_of log x ends leading greatest count time led contacts stopping) a
-    ∙ (ap (λ x. made_of log committed′ x leading greatest count time led contacts stopping) b
-    ∙ (ap (λ x. made_of log committed′ ends′ x greatest count time led contacts stopping) c
-    ∙ (ap (λ x. made_of log committed′ ends′ leading′ greatest count time led x stopping) d
-    ∙ ap (λ x. made_of log committed′ ends′ leading′ greatest count time led contacts′ x) e)))
+same_parts : (log : Log) (greatest : ℤ) (count : ℕ) (time led : ℤ) (committed committed′ : ℕ) (covered covered′ ends ends′ : List ℕ) (leading leading′ : Option ℤ) (contacts contacts′ : List Contact) (stopping stopping′ : List Stopping)
+    → committed ≡ committed′ → covered ≡ covered′ → ends ≡ ends′ → leading ≡ leading′ → contacts ≡ contacts′ → stopping ≡ stopping′
+    → made_of log committed covered ends leading greatest count time led contacts stopping ≡ made_of log committed′ covered′ ends′ leading′ greatest count time led contacts′ stopping′
+same_parts log greatest count time led committed committed′ covered covered′ ends ends′ leading leading′ contacts contacts′ stopping stopping′ a f b c d e =
+    ap (λ x. made_of log x covered ends leading greatest count time led contacts stopping) a
+    ∙ (ap (λ x. made_of log committed′ x ends leading greatest count time led contacts stopping) f
+    ∙ (ap (λ x. made_of log committed′ covered′ x leading greatest count time led contacts stopping) b
+    ∙ (ap (λ x. made_of log committed′ covered′ ends′ x greatest count time led contacts stopping) c
+    ∙ (ap (λ x. made_of log committed′ covered′ ends′ leading′ greatest count time led x stopping) d
+    ∙ ap (λ x. made_of log committed′ covered′ ends′ leading′ greatest count time led contacts′ x) e))))
 
 module _ (before s r : State) (k : Alike before s r) where
   pub is_with_past : s ≡ with_past r s.world.log s.world.greatest s.world.count s.basis.time s.basis.led
   is_with_past =
-      same_parts s.world.log s.world.greatest s.world.count s.basis.time s.basis.led s.world.committed r.world.committed s.world.batch_ends r.world.batch_ends
+      same_parts s.world.log s.world.greatest s.world.count s.basis.time s.basis.led s.world.committed r.world.committed s.world.covered r.world.covered s.world.batch_ends r.world.batch_ends
       s.world.leading r.world.leading s.basis.contacts r.basis.contacts s.basis.stopping r.basis.stopping
-      k.committed k.ends k.leading k.contacts k.stopping
+      k.committed k.covered k.ends k.leading k.contacts k.stopping
 
   pub same_tips : tip_of s ≡ tip_of r
   same_tips = same_tip s.world.log r.world.log k.log
@@ -73,8 +77,16 @@ module _ (before s r : State) (k : Alike before s r) where
   pub same_images : image_of_tip s ≡ image_of_tip r
   same_images = same_seen_at_tip s.world.log r.world.log k.log
 
-  pub same_ends : r.world.log.offset ≤ r.world.committed → image_of_end s ≡ image_of_end r
-  same_ends started = ap (λ n. image_of_end (record s { world = record s.world { committed = n } })) k.committed ∙ same_seen s.world.log r.world.log k.log r.world.committed started
+  pub same_states : state_of_tip s ≡ state_of_tip r
+  same_states = same_state_at_tip s.world.log r.world.log k.log
+
+  pub same_closed_ends : r.world.log.offset ≤ r.world.committed → closed_of s.world ≡ closed_of r.world
+  same_closed_ends started = ap (closed_end_at s.world.log) k.committed ∙ same_closed s.world.log r.world.log k.log r.world.committed started
+
+  pub same_closed_images : Rises r.world → image_of_closed s ≡ image_of_closed r
+  same_closed_images rises =
+      let between = closed_end_between r.world.log r.world.committed rises.started (not_higher r.world.committed r.world.batch_ends (tip_of r) rises.ends) in
+      ap (seen_at s.world.log) (same_closed_ends rises.started) ∙ same_seen s.world.log r.world.log k.log (closed_of r.world) between.0
 
   pub same_heard : heard s.basis ≡ heard r.basis
   same_heard = ap (λ cs. heard (record s.basis { contacts = cs })) k.contacts ∙ ap (λ ss. heard (record r.basis { stopping = ss })) k.stopping
@@ -96,6 +108,7 @@ module _ (before : State) where
   heard_alike s r k heard = record {
     log = k.log;
     committed = k.committed;
+    covered = k.covered;
     ends = k.ends;
     leading = k.leading;
     epochs = k.epochs;
@@ -113,6 +126,7 @@ module _ (before : State) where
     longer_alike = record {
       log = shortens_written s.world.log r.world.log k.log items;
       committed = k.committed;
+      covered = k.covered;
       ends =
           ap (λ ends. ends ++ (tip s.world.log + length items) ∷ []) k.ends
           ∙ ap (λ n. r.world.batch_ends ++ (n + length items) ∷ []) (same_tip s.world.log r.world.log k.log);
@@ -154,6 +168,7 @@ module _ (before : State) where
   counted_alike s r k = record {
     log = k.log;
     committed = k.committed;
+    covered = k.covered;
     ends = k.ends;
     leading = k.leading;
     epochs = k.epochs;
@@ -180,6 +195,7 @@ timed_alike before s r k event =
     let goes = not_earlier r.basis.time event in record {
       log = k.log;
       committed = k.committed;
+      covered = k.covered;
       ends = k.ends;
       leading = k.leading;
       epochs = k.epochs;

@@ -1,9 +1,10 @@
 -- What is given out behind a prefix of the log is given out behind its image.
-use Rattle.std.proofs.Common.{◌≡◌, ◌∙◌, sym, subst, ℕ, ℤ, pos, negsuc, Bool, true, false, cond, List, [], ◌∷◌, ◌++◌, map, refl, ap, arith, inl, inr}
+use Rattle.std.proofs.Common.{◌≡◌, ◌∙◌, sym, subst, ℕ, ℤ, pos, negsuc, Bool, true, false, cond, ◌≤◌, ◌<◌, List, [], ◌∷◌, ◌++◌, map, refl, ap, arith, inl, inr}
 use Rattle.std.proofs.lemmas.Int.{ints, clamps}
 use Rattle.std.proofs.lemmas.Bool.Decides.{nat_tests}
 use Rattle.std.proofs.lemmas.List.{append-nil}
-use Rattle.std.specs.Prelude.{None, Result, Ok, Err, IsTrue, filter, int_lt, not}
+use Rattle.std.specs.Prelude.{None, Option, Result, Some, Ok, Err, IsTrue, filter, int_lt, not}
+use Rattle.std.specs.Option.{option_map_or}
 use Rattle.std.specs.List.{AllByRecursion}
 use Rattle.std.specs.Ordering.{int_eq}
 use Rattle.std.specs.Result.{result_unwrap_or}
@@ -15,7 +16,9 @@ use Rattle.kr_defs.specs.Guard.{and_then}
 use Rattle.kr_defs.specs.Heartbeats.{Heartbeats, heard}
 use Rattle.kr_defs.specs.Heartbeats as hearing
 use Rattle.kr_defs.specs.Image.{Image}
-use Rattle.kr_defs.specs.Log.{image_at, tip}
+use Rattle.kr_defs.specs.Log.{closed_end_at, state_at, tip}
+use Rattle.kr_defs.specs.LogStates.{Opened, closed, closed_end}
+use Rattle.kr_defs.proofs.StateLogs.{closed_end_told, open_stands, state_at_tip}
 use Rattle.kr_defs.proofs.HeartbeatLists.{le_itself}
 use Rattle.kr_defs.proofs.IdLists.{same_id}
 use Rattle.kr_defs.proofs.Tests.{not_true}
@@ -28,8 +31,9 @@ use Rattle.kr_model.specs.Engine.{Rise}
 use Rattle.kr_model.specs.Outputs.{is_open, outputs_of, waiting_writes, waiting_after, writes_from}
 use Rattle.kr_model.specs.Reasons.{exhausted, older_image}
 use Rattle.kr_model.specs.Load.{image_or, take_image, after_load}
-use Rattle.kr_model.specs.World.{State, is_far, start}
-use Rattle.kr_model.proofs.Logs.{at_tip}
+use Rattle.kr_model.specs.World.{State, closed_of, is_far, start}
+use Rattle.kr_model.proofs.CoveredEnds.{AreCovered}
+use Rattle.kr_model.proofs.Logs.{HasState, state_seen}
 use Rattle.kr_model.proofs.WaitingWrites.{state_more}
 use Rattle.law_compaction.specs.ReplacedPrefix.{IsLater, ReplacedPrefix, StandsBy, given_after, unnumbered}
 use Rattle.law_compaction.proofs.AlikeEvents.{stays_alike}
@@ -81,14 +85,19 @@ module _ (before : State) (options : Options) where
 -- ---- on standby, and behind a Load
 
 -- no write waits on standby
-closed : (end : ℤ) (writes : List Write) → filter (is_open None end) writes ≡ []
-closed end [] = refl
-closed end (write ∷ writes) = closed end writes
+none_open : (end : ℤ) (writes : List Write) → filter (is_open None end) writes ≡ []
+none_open end [] = refl
+none_open end (write ∷ writes) = none_open end writes
 
 none_waits : (options : Options) (past : List Event) → (state options past).world.leading ≡ None → waiting_writes options past ≡ []
 none_waits options past standby =
     let w = (state options past).world in
-    ap (λ l. filter (is_open l (pos w.committed)) (writes_from options start past)) standby ∙ closed (pos w.committed) (writes_from options start past)
+    ap (λ l. filter (is_open l (pos (closed_of w))) (writes_from options start past)) standby ∙ none_open (pos (closed_of w)) (writes_from options start past)
+
+-- none stands between an end and itself
+none_covered : (end : ℕ) (ns : List ℕ) → AreCovered end end ns → ns ≡ []
+none_covered end [] are = refl
+none_covered end (n ∷ ns) are = let above : end < n = are.0.0 in let low : n ≤ end = are.0.1 in absurd (omega (arith, above, low))
 
 not_below_zero : (n : ℕ) → int_lt (pos n) (pos 0) ≡ false
 not_below_zero n = grind (arith, nat_tests)
@@ -123,15 +132,35 @@ module _ (options : Options) (earlier : List Event) (end : ℕ) (image : Image) 
   epochs_by true none = inl (same_id before.world.greatest (negsuc 0) none)
   epochs_by false some = inr (some, le_itself before.world.greatest, h.least)
 
+  at_its_end : HasState before.world.log end image
+  at_its_end = state_seen before.world.log end image stands.seen
+
+  -- what is open began below the end
+  nothing_open : (opened : Option Opened) → at_its_end.state.opened ≡ opened → opened ≡ None
+  nothing_open None is = refl
+  nothing_open (Some opened) is =
+      let begins : closed_end at_its_end.state end ≡ opened.place = ap (λ (o : Option Opened). option_map_or (λ (x : Opened). x.place) o end) is in
+      let told : closed_end at_its_end.state end ≡ closed_end_at before.world.log end = closed_end_told before.world.log end at_its_end.state at_its_end.there in
+      let closes : closed_end_at before.world.log end ≡ end = ap (closed_end_at before.world.log) (sym stands.committed) ∙ stands.closed in
+      let below = (open_stands before.world.log end at_its_end.state opened at_its_end.there is).below in
+      absurd (omega (arith, begins, told, closes, below))
+
+  state_there : state_at before.world.log end ≡ Ok (closed image)
+  state_there =
+      at_its_end.there
+      ∙ (ap (λ (o : Option Opened). Ok (record at_its_end.state { opened = o })) (nothing_open at_its_end.state.opened refl)
+      ∙ ap (λ (i : Image). Ok (closed i)) at_its_end.same)
+
   alike : Alike before before behind
   alike = record {
     log = record {
       prefix = before.world.log.items;
       items = sym (append-nil before.world.log.items);
       offset = at_end;
-      image = sym (at_tip before.world.log) ∙ (ap (image_at before.world.log) (sym at_end) ∙ stands.seen);
+      state = sym (state_at_tip before.world.log) ∙ (ap (state_at before.world.log) (sym at_end) ∙ state_there);
     };
     committed = stands.committed;
+    covered = none_covered before.world.committed before.world.covered (subst (λ c. AreCovered c before.world.committed before.world.covered) (stands.closed ∙ sym stands.committed) h.orderly.rises.covered);
     ends = at_standby.0;
     leading = stands.standby;
     epochs = epochs_by (int_eq before.world.greatest (negsuc 0)) refl;

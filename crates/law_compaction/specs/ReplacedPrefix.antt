@@ -14,12 +14,13 @@ use Rattle.kr_defs.specs.Log.{image_at}
 use Rattle.kr_snapshot.specs.Grammar.{IsImage}
 use Rattle.kr_model.specs.Events.{state}
 use Rattle.kr_model.specs.Outputs.{outputs_after}
-use Rattle.kr_model.specs.World.{State, is_far}
+use Rattle.kr_model.specs.World.{State, closed_of, is_far}
 
--- on standby, with this committed end and this image of what is committed
+-- on standby, with this committed end, at which no transaction is open (KIP-868), and this image of what is committed
 pub record StandsBy (s : State) (end : ℕ) (image : Image) : Type 0 where
   pub standby : s.world.leading ≡ None
   pub committed : s.world.committed ≡ end
+  pub closed : closed_of s.world ≡ end
   pub seen : image_at s.world.log end ≡ Ok image
 
 -- A Lead is of an epoch above all that were led before, where any was (the greatest is -1 where none was), at a time not

@@ -1,5 +1,5 @@
 -- The images that an engine keeps are valid, and stand under rising places.
-use Rattle.std.proofs.Common.{◌≡◌, sym, subst, ℕ, ℤ, pos, ◌<◌, List, [], ◌∷◌, map, arith}
+use Rattle.std.proofs.Common.{◌≡◌, sym, subst, ℕ, ℤ, pos, ◌<◌, List, [], ◌∷◌, ◌++◌, map, arith}
 use Rattle.std.proofs.lemmas.Int.{ints}
 use Rattle.std.proofs.lemmas.List.Elements.{All-from_recursion}
 use Rattle.std.specs.Prelude.{All, Ok}
@@ -11,9 +11,10 @@ use Rattle.std.specs.Ordering.{int_cmp}
 use Rattle.kr_defs.specs.Image.{Image, IsValid}
 use Rattle.kr_defs.specs.Log.{Log, image_at, tip}
 use Rattle.kr_defs.proofs.Logs.{valid_at}
-use Rattle.kr_model.specs.Engine.{Rise, kept_image}
-use Rattle.kr_model.specs.World.{seen_at, tip_of}
+use Rattle.kr_model.specs.Engine.{Rise, kept_image, kept_places}
+use Rattle.kr_model.specs.World.{closed_of, seen_at, tip_of}
 use Rattle.kr_model.proofs.KeptImages.{seen_below}
+use Rattle.kr_model.proofs.StandingEngines.{places_rise}
 use Rattle.law_invariants.specs.WorldLaws.{KeptAreValid}
 
 -- ---- places
@@ -45,9 +46,9 @@ pub kept_are_valid : KeptAreValid
 kept_are_valid e s writes k =
     let log = s.world.log in
     let valid = k.is_state.valid in
-    let ns = s.world.committed ∷ s.world.batch_ends in
+    let ns = kept_places s.world in
     let kept : List (ℤ × Image) = map (kept_image log) ns in (
       subst (All (λ (k : ℤ × Image). IsValid k.1)) (sym k.kept) (All-from_recursion (λ (k : ℤ × Image). IsValid k.1) kept (all_valid log e.images.tip valid k.present ns)),
       valid_at log (tip_of s) valid e.images.tip k.present,
-      subst (λ (those : List (ℤ × Image)). IsStrictlySortedBy int_cmp (places those)) (sym k.kept) (rising log (tip_of s) s.world.committed s.world.batch_ends k.is_state.ends),
+      subst (λ (those : List (ℤ × Image)). IsStrictlySortedBy int_cmp (places those)) (sym k.kept) (rising log (tip_of s) (closed_of s.world) (s.world.covered ++ s.world.batch_ends) (places_rise e s writes k)),
     )

@@ -8,17 +8,32 @@ use Rattle.kr_defs.specs.declared.options.Options.{Options}
 use Rattle.kr_defs.specs.Heartbeats.{contact_brokers, end, heard, never_fall, stopping_brokers}
 use Rattle.kr_defs.specs.Ids.{is_distinct, is_within}
 use Rattle.kr_defs.specs.Image.{Image, IsValid}
-use Rattle.kr_defs.specs.Log.{image_at}
+use Rattle.kr_defs.specs.Log.{image_at, open_at}
 use Rattle.kr_model.specs.declared.writes.Write.{Write}
 use Rattle.kr_model.specs.Engine.{Core, IsEngine}
 use Rattle.kr_model.specs.Events.{basis, state, world}
-use Rattle.kr_model.specs.World.{State, image_of_tip}
+use Rattle.kr_model.specs.World.{State, closed_of, image_of_tip, tip_of}
 use Rattle.law_safety.specs.HearingLaws.{HearsOf}
 
 -- However many events come later, the committed end isn't below the one before.
 abbrev pub CommittedRises : Type 0
 CommittedRises =
     (options : Options) (past later : List Event) → (world options past).committed ≤ (world options (past ++ later)).committed
+
+-- Nor is the closed end.
+abbrev pub ClosedRises : Type 0
+ClosedRises =
+    (options : Options) (past later : List Event) → closed_of (world options past) ≤ closed_of (world options (past ++ later))
+
+-- What is closed is committed.
+abbrev pub ClosedIsCommitted : Type 0
+ClosedIsCommitted = (options : Options) (past : List Event) → closed_of (world options past) ≤ (world options past).committed
+
+-- While a node leads, no transaction is open at the tip: what it decides on is no part of one (KIP-868).
+abbrev pub NoneOpenWhileLeading : Type 0
+NoneOpenWhileLeading =
+    (options : Options) (past : List Event) → let s = state options past in
+    IsSome s.world.leading → open_at s.world.log (tip_of s) ≡ None
 
 -- Along the contacts the times never fall, and none is later than the greatest time of any event.
 abbrev pub ContactsRise : Type 0
@@ -39,7 +54,7 @@ HearsWhileLeading =
     (options : Options) (past : List Event) → let s = state options past in
     (IsSome s.world.leading → HearsOf (heard s.basis) (image_of_tip s)) × (s.world.leading ≡ None → heard s.basis ≡ end)
 
--- The items of the log below each place make an image, and it is valid: so are those at the committed end, at the ends of the
+-- The items of the log below each place make an image, and it is valid: so are those at the closed end, at the ends of the
 -- batches above it, and at the tip.
 abbrev pub ImagesAreValid : Type 0
 ImagesAreValid = (options : Options) (past : List Event) (place : ℕ) → MatchResult (image_at (world options past).log place) IsValid (λ ill. ⊥)

@@ -1,11 +1,22 @@
 //! What is true of a controller whatever happened to it. Each function says so in its contract, and does nothing.
 #![tactic(auto)]
 
-ghost use Rattle.law_invariants.specs.WorldLaws.{CommittedRises, ContactsAreOnce, ContactsRise, HearsWhileLeading, ImagesAreValid, KeptAreValid};
+ghost use Rattle.law_invariants.specs.WorldLaws.{ClosedIsCommitted, ClosedRises, CommittedRises, ContactsAreOnce, ContactsRise, HearsWhileLeading, ImagesAreValid, KeptAreValid, NoneOpenWhileLeading};
 
 /// The committed end never falls, whatever events come.
 pub fn the_committed_end_never_falls()
     ensures { CommittedRises }
+{}
+
+/// The closed end, below which no transaction is open, never falls either, and isn't above the committed end.
+pub fn the_closed_end_never_falls()
+    ensures rises { ClosedRises }
+    ensures committed { ClosedIsCommitted }
+{}
+
+/// After any events no transaction is open at the tip while a node leads.
+pub fn leaders_decide_outside_transactions()
+    ensures { NoneOpenWhileLeading }
 {}
 
 /// After any events the times never fall along the contacts, and none is later than the greatest time of any event. Each

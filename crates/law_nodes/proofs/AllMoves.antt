@@ -83,7 +83,8 @@ nodes_agree options nodes ms =
     let r = run options nodes ms in
     let g = run_is options nodes ms in
     let seen = λ (k : ℕ) (n : RunNode) (is : slice_get r.nodes k ≡ Some n).
-    same_image r.list n.state.world.log n.state.world.committed (at_node (IsNode r.list r.elected) r.nodes k n g.nodes is).core.committed in
+    let c = (at_node (IsNode r.list r.elected) r.nodes k n g.nodes is).core in
+    same_image r.list n.state.world.log n.state.world.committed c.committed c.means in
     record {
       follows = λ k n is. (at_node (IsNode r.list r.elected) r.nodes k n g.nodes is).core.committed;
       images = seen;

@@ -15,9 +15,10 @@ use Rattle.kr_defs.specs.declared.record.Item.{Item}
 use Rattle.kr_defs.specs.declared.record.Item.TheVariants as items
 use Rattle.kr_defs.specs.declared.record.Record.TheVariants as kinds
 use Rattle.kr_defs.specs.Apply.{apply, apply_record}
-use Rattle.kr_defs.specs.Log.{image_at}
+use Rattle.kr_defs.specs.Log.{image_at, open_at, state_at}
+use Rattle.kr_defs.specs.LogStates.{apply_at}
 use Rattle.kr_defs.specs.Sizes.{value_bytes}
-use Rattle.kr_model.specs.World.{image_of_end}
+use Rattle.kr_model.specs.World.{image_of_closed}
 use Rattle.law_nodes.specs.declared.moves.Move.{Move}
 use Rattle.law_nodes.specs.declared.moves.Move.TheVariants as moves
 use Rattle.law_nodes.specs.declared.moves.MoveFault.TheVariants as faults
@@ -60,7 +61,7 @@ abbrev ends : Run → List ℕ
 ends r = map (λ n. committed_end n) r.nodes
 
 abbrev settings : Run → List (List (ConfigKey × List ℕ))
-settings r = map (λ n. (image_of_end n.state).configs) r.nodes
+settings r = map (λ n. (image_of_closed n.state).configs) r.nodes
 
 abbrev setting : List ℕ → List (ConfigKey × List ℕ)
 setting value = (record { kind = pos 4; name = []; key = key }, value) ∷ []
@@ -75,19 +76,19 @@ late = run options 3 (
     elect 0 (pos 1) ∷ ask 0 (pos 7) (codes "2") ∷ moves.Settle 0 ∷ moves.Depose 0 ∷ elect 0 (pos 2) ∷ moves.Feed 1 ∷ elect 1 (pos 2) ∷ moves.Feed 0 ∷ [])
 
 is_behind : move_outcome options (run options 3 deposed) (elect 0 (pos 2)) ≡ Err (faults.Behind (pos 0) (pos 1))
-unfolding work_of incremental_alter_configs.decided done taken apply_record apply image_at value_bytes heartbeats_after refusals.refuse
+unfolding work_of incremental_alter_configs.decided done taken apply_record apply image_at state_at apply_at open_at value_bytes heartbeats_after refusals.refuse
 is_behind = refl
 
 late_told : late.told ≡ lost (pos 7) ∷ []
-unfolding work_of incremental_alter_configs.decided done taken apply_record apply image_at value_bytes heartbeats_after refusals.refuse
+unfolding work_of incremental_alter_configs.decided done taken apply_record apply image_at state_at apply_at open_at value_bytes heartbeats_after refusals.refuse
 late_told = refl
 
 late_ends : ends late ≡ 1 ∷ 1 ∷ 0 ∷ []
-unfolding work_of incremental_alter_configs.decided done taken apply_record apply image_at value_bytes heartbeats_after refusals.refuse
+unfolding work_of incremental_alter_configs.decided done taken apply_record apply image_at state_at apply_at open_at value_bytes heartbeats_after refusals.refuse
 late_ends = refl
 
 late_settings : settings late ≡ setting (codes "2") ∷ setting (codes "2") ∷ [] ∷ []
-unfolding work_of incremental_alter_configs.decided done taken apply_record apply image_at value_bytes heartbeats_after refusals.refuse
+unfolding work_of incremental_alter_configs.decided done taken apply_record apply image_at state_at apply_at open_at value_bytes heartbeats_after refusals.refuse
 late_settings = refl
 
 -- ---- a success is told once it is settled
@@ -99,15 +100,15 @@ abbrev told : Run
 told = run options 3 (elect 0 (pos 1) ∷ ask 0 (pos 7) (codes "2") ∷ moves.Tell 0 ∷ moves.Settle 0 ∷ moves.Tell 0 ∷ [])
 
 not_yet : move_outcome options asked (moves.Tell 0) ≡ Err (faults.NothingNew (pos 0))
-unfolding work_of incremental_alter_configs.decided done taken apply_record apply image_at value_bytes heartbeats_after refusals.refuse
+unfolding work_of incremental_alter_configs.decided done taken apply_record apply image_at state_at apply_at open_at value_bytes heartbeats_after refusals.refuse
 not_yet = refl
 
 told_then : told.told ≡ stands (pos 7) (pos 0) (codes "2") ∷ []
-unfolding work_of incremental_alter_configs.decided done taken apply_record apply image_at value_bytes heartbeats_after refusals.refuse
+unfolding work_of incremental_alter_configs.decided done taken apply_record apply image_at state_at apply_at open_at value_bytes heartbeats_after refusals.refuse
 told_then = refl
 
 no_more : move_outcome options told (moves.Tell 0) ≡ Err (faults.NothingNew (pos 1))
-unfolding work_of incremental_alter_configs.decided done taken apply_record apply image_at value_bytes heartbeats_after refusals.refuse
+unfolding work_of incremental_alter_configs.decided done taken apply_record apply image_at state_at apply_at open_at value_bytes heartbeats_after refusals.refuse
 no_more = refl
 
 -- ---- a leader that was passed over settles nothing more, but tells what it settled
@@ -116,7 +117,7 @@ abbrev passed : List Move
 passed = elect 0 (pos 1) ∷ ask 0 (pos 7) (codes "2") ∷ ask 0 (pos 8) (codes "3") ∷ moves.Settle 0 ∷ moves.Feed 1 ∷ elect 1 (pos 2) ∷ []
 
 is_passed : move_outcome options (run options 3 passed) (moves.Settle 0) ≡ Err (faults.NotLatest (pos 1) (pos 2))
-unfolding work_of incremental_alter_configs.decided done taken apply_record apply image_at value_bytes heartbeats_after refusals.refuse
+unfolding work_of incremental_alter_configs.decided done taken apply_record apply image_at state_at apply_at open_at value_bytes heartbeats_after refusals.refuse
 is_passed = refl
 
 abbrev follows : Run
@@ -125,18 +126,18 @@ follows = run options 3 (
     ∷ moves.Settle 0 ∷ moves.Tell 0 ∷ ask 1 (pos 9) (codes "4") ∷ moves.Settle 1 ∷ moves.Tell 0 ∷ moves.Depose 0 ∷ moves.Feed 0 ∷ [])
 
 follows_told : follows.told ≡ stands (pos 7) (pos 0) (codes "2") ∷ lost (pos 8) ∷ []
-unfolding work_of incremental_alter_configs.decided done taken apply_record apply image_at value_bytes heartbeats_after refusals.refuse
+unfolding work_of incremental_alter_configs.decided done taken apply_record apply image_at state_at apply_at open_at value_bytes heartbeats_after refusals.refuse
 follows_told = refl
 
 -- node 1 isn't told yet of what it settled
 follows_settings : settings follows ≡ setting (codes "4") ∷ setting (codes "2") ∷ [] ∷ []
-unfolding work_of incremental_alter_configs.decided done taken apply_record apply image_at value_bytes heartbeats_after refusals.refuse
+unfolding work_of incremental_alter_configs.decided done taken apply_record apply image_at state_at apply_at open_at value_bytes heartbeats_after refusals.refuse
 follows_settings = refl
 
 -- ---- a new node gets the image, unless the other one is older
 
 copied : ends (run options 3 (elect 0 (pos 1) ∷ ask 0 (pos 7) (codes "2") ∷ moves.Settle 0 ∷ moves.Tell 0 ∷ moves.Copy 0 2 ∷ moves.Copy 1 2 ∷ [])) ≡ 1 ∷ 0 ∷ 1 ∷ []
-unfolding work_of incremental_alter_configs.decided done taken apply_record apply image_at value_bytes heartbeats_after refusals.refuse
+unfolding work_of incremental_alter_configs.decided done taken apply_record apply image_at state_at apply_at open_at value_bytes heartbeats_after refusals.refuse
 copied = refl
 
 no_node : move_outcome options (run options 3 []) (moves.Copy 4 3) ≡ Err (faults.NoNode 4 3)

@@ -15,7 +15,7 @@ use Rattle.kr_defs.proofs.Tests.{some_is}
 use Rattle.kr_model.specs.declared.writes.Write.{Write}
 use Rattle.kr_model.specs.Events.{at_time_of, happens, outcome, state}
 use Rattle.kr_model.specs.Outputs.{answers_now, is_open_in, new_writes, outputs, outputs_after, outputs_of, waiting_after, waiting_writes, writes_from, writes_of}
-use Rattle.kr_model.specs.World.{State, World, leads_in, start}
+use Rattle.kr_model.specs.World.{State, World, leads_in, start, closed_of}
 use Rattle.kr_model.proofs.OrderlyStates.{holds, waiting_then}
 use Rattle.kr_model.proofs.WaitingWrites.{state_more}
 use Rattle.law_nodes.specs.Histories.{NodeEvent, of_node, replies_over, told_of_node}
@@ -76,7 +76,7 @@ filter_again p (x ∷ xs) = again_by p x xs (filter_again p xs) (p x) refl
 none_open : (w : World) → w.leading ≡ None → (ws : List Write) → filter (is_open_in w) ws ≡ []
 none_open w none [] = refl
 none_open w none (x ∷ ws) =
-    ap (λ (o : Option ℤ). cond (leads_in o x.epoch && int_lt (pos w.committed) x.need) (x ∷ filter (is_open_in w) ws) (filter (is_open_in w) ws)) none ∙ none_open w none ws
+    ap (λ (o : Option ℤ). cond (leads_in o x.epoch && int_lt (pos (closed_of w)) x.need) (x ∷ filter (is_open_in w) ws) (filter (is_open_in w) ws)) none ∙ none_open w none ws
 
 none_left : (ws : List Waiting) → writes_in ws ≡ [] → ws ≡ []
 none_left [] is = refl
@@ -121,7 +121,7 @@ module _ (options : Options) (k : ℕ) (n : RunNode) (event : Event) where
   by_outcome : (q : Result State Reason) → AreOf k (tells_by options k n (at_time_of n.state event) event q)
   by_outcome (Ok after) =
       are_both k (flat_map (told_now k) (answers_now options (at_time_of n.state event) event)) (told_due k after.world (writes_with options (at_time_of n.state event) n.waiting event))
-      (now_of k (answers_now options (at_time_of n.state event) event)) (due_of k after.world.committed (filter (λ x. not (waits_in after.world x)) (writes_with options (at_time_of n.state event) n.waiting event)))
+      (now_of k (answers_now options (at_time_of n.state event) event)) (due_of k (closed_of after.world) (filter (λ x. not (waits_in after.world x)) (writes_with options (at_time_of n.state event) n.waiting event)))
   by_outcome (Err reason) = tt
 
   told_of_own : AreOf k (told_of options k n event)

@@ -1,24 +1,26 @@
 -- A log that follows the list goes on to follow it.
 use Rattle.std.proofs.Common.{◌≡◌, ◌∙◌, sym, subst, ℕ, ◌+◌, ◌-◌, ◌≤◌, List, [], ◌∷◌, ◌++◌, length, take, drop, refl, ap, arith}
-use Rattle.std.specs.Prelude.{Some, Result, Ok, Err, IsOk}
+use Rattle.std.specs.Prelude.{None, Option, Some, Result, Ok, Err, IsOk, unwrap_or}
 use Rattle.std.specs.Result.{result_unwrap_or}
 use Rattle.std.specs.List.{AllByRecursion}
-use Rattle.std.proofs.lemmas.List.{append-nil, append_assoc, length-append, take_at}
+use Rattle.std.proofs.lemmas.List.{append-nil, append_assoc, length-append, take-append-drop, take_all, take_at}
 use Rattle.kr_batch.specs.declared.Batch.{Batch}
 use Rattle.kr_defs.specs.declared.record.Item.{Item}
 use Rattle.kr_defs.specs.declared.ill.Ill.{Ill}
 use Rattle.kr_defs.specs.Guard.{and_then}
 use Rattle.kr_defs.specs.Image.{Image, IsValid, empty}
-use Rattle.kr_defs.specs.Log.{Log, apply_all, image_at, tip}
+use Rattle.kr_defs.specs.Log.{Log, apply_all, closed_end_at, image_at, open_at, state_at, tip}
+use Rattle.kr_defs.specs.LogStates.{closed}
+use Rattle.kr_defs.proofs.StateLogs.{open_told, plain_log}
 use Rattle.kr_defs.proofs.Logs.{kept_all}
 use Rattle.kr_model.specs.Lost.{cut}
 use Rattle.kr_model.specs.World.{log_with, seen_at}
 use Rattle.kr_model.proofs.LoadedImages.{empty_valid}
-use Rattle.kr_model.proofs.Logs.{apply_append, at_tip}
+use Rattle.kr_model.proofs.Logs.{apply_append, image_there}
 use Rattle.law_nodes.specs.OneList.{Follows, batch_from, StandsIn, list_items}
 use Rattle.law_nodes.proofs.Lists.{HasItems, batch_behind, items_append, items_one, none_long, rest_of, some_before, some_behind}
 
--- ---- images
+-- ---- items below the end
 
 -- the log's items below the end
 pub shared_is : (list : List Batch) (log : Log) (end : ℕ) (f : Follows list log end) → take (end - log.offset) log.items ≡ f.shared
@@ -37,14 +39,6 @@ end_length list log end f =
     let o = f.offset_is in
     let e = f.end_is in
     omega (arith, long, o, e)
-
-pub same_image : (list : List Batch) (log : Log) (end : ℕ) → Follows list log end → image_at log end ≡ apply_all empty (take end (list_items list))
-unfolding image_at
-same_image list log end f =
-    ap (λ (l : List Item). apply_all log.image l) (shared_is list log end f)
-    ∙ (sym (apply_append f.before f.shared empty ∙ ap (λ (r : Result Image Ill). and_then r (λ i. apply_all i f.shared)) f.starts)
-    ∙ ap (λ (l : List Item). apply_all empty l)
-    (sym (ap (λ (l : List Item). take end l) (front_is list log end f) ∙ take_at (f.before ++ f.shared) (list_items f.ahead) end (end_length list log end f))))
 
 -- ---- facts on images
 
@@ -74,6 +68,40 @@ pub back_means : (image : Image) (front back : List Item) → IsOk (apply_all im
 back_means image front back h k =
     subst (λ (r : Result Image Ill). IsOk r) (sym (apply_append front back image ∙ ap (λ (r : Result Image Ill). and_then r (λ i. apply_all i back)) (ok_is (apply_all image front) h))) k
 
+-- ---- no transaction is open in a log whose items all have a meaning for images
+
+module _ (log : Log) (means : IsOk (apply_all log.image log.items)) (place : ℕ) where
+  plain : apply_all log.image (take (place - log.offset) log.items) ≡ Ok (result_unwrap_or (apply_all log.image (take (place - log.offset) log.items)) empty)
+  plain =
+      let n = place - log.offset in
+      ok_is (apply_all log.image (take n log.items))
+      (front_means log.image (take n log.items) (drop n log.items) (subst (λ (l : List Item). IsOk (apply_all log.image l)) (sym (take-append-drop n log.items)) means))
+
+  plain_state : state_at log place ≡ Ok (closed (result_unwrap_or (apply_all log.image (take (place - log.offset) log.items)) empty))
+  plain_state = plain_log log place (result_unwrap_or (apply_all log.image (take (place - log.offset) log.items)) empty) plain
+
+  plain_image : image_at log place ≡ apply_all log.image (take (place - log.offset) log.items)
+  plain_image = image_there log place (closed (result_unwrap_or (apply_all log.image (take (place - log.offset) log.items)) empty)) plain_state ∙ sym plain
+
+  pub has_plain_state : (image : Image) × (state_at log place ≡ Ok (closed image))
+  has_plain_state = (result_unwrap_or (apply_all log.image (take (place - log.offset) log.items)) empty, plain_state)
+
+  none_open : open_at log place ≡ None
+  none_open = sym (open_told log place (closed (result_unwrap_or (apply_all log.image (take (place - log.offset) log.items)) empty)) plain_state)
+
+  pub all_closed : closed_end_at log place ≡ place
+  all_closed = ap (λ (o : Option ℕ). unwrap_or o place) none_open
+
+-- ---- images
+
+pub same_image : (list : List Batch) (log : Log) (end : ℕ) → Follows list log end → IsOk (apply_all log.image log.items) → image_at log end ≡ apply_all empty (take end (list_items list))
+same_image list log end f means =
+    plain_image log means end
+    ∙ (ap (λ (l : List Item). apply_all log.image l) (shared_is list log end f)
+    ∙ (sym (apply_append f.before f.shared empty ∙ ap (λ (r : Result Image Ill). and_then r (λ i. apply_all i f.shared)) f.starts)
+    ∙ ap (λ (l : List Item). apply_all empty l)
+    (sym (ap (λ (l : List Item). take end l) (front_is list log end f) ∙ take_at (f.before ++ f.shared) (list_items f.ahead) end (end_length list log end f)))))
+
 -- a log's items mean what they mean in the list behind what is below its start
 pub from_start : (list : List Batch) (log : Log) (end : ℕ) (f : Follows list log end) (items : List Item) → apply_all empty (f.before ++ items) ≡ apply_all log.image items
 from_start list log end f items = apply_append f.before items empty ∙ ap (λ (r : Result Image Ill). and_then r (λ i. apply_all i items)) f.starts
@@ -82,8 +110,9 @@ pub shared_means : (list : List Batch) (log : Log) (end : ℕ) (f : Follows list
 shared_means list log end f h = front_means log.image f.shared f.rest (subst (λ (l : List Item). IsOk (apply_all log.image l)) f.items_are h)
 
 pub seen : (list : List Batch) (log : Log) (end : ℕ) → Follows list log end → IsOk (apply_all log.image log.items) → image_at log end ≡ Ok (seen_at log end)
-unfolding image_at
-seen list log end f h = ok_is (image_at log end) (subst (λ (l : List Item). IsOk (apply_all log.image l)) (sym (shared_is list log end f)) (shared_means list log end f h))
+seen list log end f h =
+    ok_is (image_at log end)
+    (subst (λ (r : Result Image Ill). IsOk r) (sym (plain_image log h end ∙ ap (λ (l : List Item). apply_all log.image l) (shared_is list log end f))) (shared_means list log end f h))
 
 -- ---- the same end, told otherwise
 
@@ -192,9 +221,9 @@ feed_batch list log end to f b bs none ahead up = record {
 }
 
 -- a log that starts from the image there
-abbrev pub load_image : (list : List Batch) (log : Log) (end : ℕ) (image : Image) → Follows list log end → image_at log end ≡ Ok image
+abbrev pub load_image : (list : List Batch) (log : Log) (end : ℕ) (image : Image) → Follows list log end → IsOk (apply_all log.image log.items) → image_at log end ≡ Ok image
     → Follows list (record { offset = end; image = image; items = [] }) end
-load_image list log end image f is = record {
+load_image list log end image f means is = record {
   done = f.done;
   ahead = f.ahead;
   before = f.before ++ f.shared;
@@ -208,7 +237,7 @@ load_image list log end image f is = record {
   starts =
       ap (λ (l : List Item). apply_all empty l)
       (sym (ap (λ (l : List Item). take end l) (front_is list log end f) ∙ take_at (f.before ++ f.shared) (list_items f.ahead) end (end_length list log end f)))
-      ∙ (sym (same_image list log end f) ∙ is);
+      ∙ (sym (same_image list log end f means) ∙ is);
 }
 
 -- ---- what a leader decided stands in the list once it is settled
@@ -271,15 +300,17 @@ next_batch_is list log end f b bs some ahead =
 
 -- ---- the image at the tip
 
-pub tip_is : (log : Log) → seen_at log (tip log) ≡ result_unwrap_or (apply_all log.image log.items) empty
-tip_is log = ap (λ (r : Result Image Ill). result_unwrap_or r empty) (at_tip log)
+pub tip_is : (log : Log) → IsOk (apply_all log.image log.items) → seen_at log (tip log) ≡ result_unwrap_or (apply_all log.image log.items) empty
+tip_is log means =
+    ap (λ (r : Result Image Ill). result_unwrap_or r empty)
+    (plain_image log means (tip log) ∙ ap (λ (l : List Item). apply_all log.image l) (take_all (tip log - log.offset) log.items (omega arith)))
 
 -- what has a meaning on it has one behind the log's items
 pub means_behind : (log : Log) (items : List Item) → IsOk (apply_all log.image log.items) → IsOk (apply_all (seen_at log (tip log)) items) → IsOk (apply_all log.image (log.items ++ items))
-means_behind log items h k = back_means log.image log.items items h (subst (λ (i : Image). IsOk (apply_all i items)) (tip_is log) k)
+means_behind log items h k = back_means log.image log.items items h (subst (λ (i : Image). IsOk (apply_all i items)) (tip_is log h) k)
 
 -- it is valid
 pub valid_tip : (list : List Batch) (log : Log) (end : ℕ) → Follows list log end → IsOk (apply_all log.image log.items) → IsValid (seen_at log (tip log))
 valid_tip list log end f h =
-    subst IsValid (sym (tip_is log))
+    subst IsValid (sym (tip_is log h))
     (kept_all (f.before ++ log.items) empty empty_valid (result_unwrap_or (apply_all log.image log.items) empty) (from_start list log end f log.items ∙ ok_is (apply_all log.image log.items) h))

@@ -18,7 +18,7 @@ use Rattle.kr_defs.specs.declared.ill.Ill.{Ill}
 use Rattle.kr_defs.specs.declared.options.Options.{Options}
 use Rattle.kr_defs.specs.Guard.{and_then}
 use Rattle.kr_defs.specs.Image.{Image}
-use Rattle.kr_defs.specs.Log.{first_ill}
+use Rattle.kr_defs.specs.LogStates.{first_ill_at}
 use Rattle.kr_defs.proofs.Tests.{Gives, gives_done, gives_refuse, some_is}
 use Rattle.kr_snapshot.specs.declared.fault.ImageFault.{ImageFault}
 use Rattle.kr_snapshot.specs.ImageText.{image_text}
@@ -28,14 +28,14 @@ use Rattle.kr_model.specs.Events.{happens, with_next_number}
 use Rattle.kr_model.specs.Load.{after_load, image_or, load, take_image}
 use Rattle.kr_model.specs.Reasons as reasons
 use Rattle.kr_model.specs.Reasons.{led_epoch}
-use Rattle.kr_model.specs.World.{State, image_of_end, image_of_tip, is_far, tip_of}
+use Rattle.kr_model.specs.World.{State, image_of_closed, is_far, state_of_tip, tip_of}
 use Rattle.law_nodes.specs.declared.moves.Move.{Move}
 use Rattle.law_nodes.specs.declared.moves.Move.TheVariants as moves
 use Rattle.law_nodes.specs.declared.moves.MoveFault.{MoveFault}
 use Rattle.law_nodes.specs.declared.moves.MoveFault.TheVariants as faults
 use Rattle.law_nodes.specs.Histories.{AllRead, NodeEvent, NodesStand, ReadsMove, events_after, events_at, events_by, move_events}
 use Rattle.law_nodes.specs.Moves as table
-use Rattle.law_nodes.specs.Moves.{after_arrival, after_election, after_move, committed_end, feed_next, if_node, length_of, load_on, move_outcome, on_node, on_standby, put_node, run, settle_first, while_leading, with_event}
+use Rattle.law_nodes.specs.Moves.{after_arrival, after_election, after_move, closed_end_of, committed_end, feed_next, if_node, length_of, load_on, move_outcome, on_node, on_standby, put_node, run, settle_first, while_leading, with_event}
 use Rattle.law_nodes.specs.Nodes.{Run, RunNode, after_event, at_own_end, first_run, fresh_node, told_of}
 use Rattle.law_nodes.specs.OneList.{batch_from}
 use Rattle.law_nodes.proofs.Histories.{IsPast, Stand, comes_one, in_two, none_takes, none_waiting, on_by, same_past, takes_from, takes_one, takes_then}
@@ -76,7 +76,7 @@ batch_lead : (s : State) (b : Batch) → Gives (SameLead s) (take_batch s b)
 batch_lead s b =
     let P = SameLead s in
     gives_refuse P (reasons.gap (pos s.world.committed) b.base) (not (int_eq b.base (pos s.world.committed))) _ (λ _. gives_refuse P (reasons.exhausted (end_of b)) (is_far (end_of b)) _ (λ _.
-    ill_lead s b (first_ill (image_of_tip s) (pos (tip_of s)) b.items)))
+    ill_lead s b (first_ill_at (state_of_tip s) (tip_of s) b.items)))
 
 image_lead : (s : State) (place : ℕ) (image : Image) → Gives (SameLead s) (take_image s (pos place, image))
 image_lead s place image =
@@ -192,17 +192,17 @@ module _ (options : Options) (r : Run) (past : ℕ → List Event) (h : Stand op
       let m = moves.Copy from to in
       there (Holds m) (no m) r from (λ f. on_node r to (λ t. table.copy options r from to f t)) (λ f is_f.
       there (Holds m) (no m) r to (λ t. table.copy options r from to f t) (λ t is_t. standby (Holds m) (no m) to t.state.world.leading _ (λ none.
-      when (Holds m) (no m) (nat_lt (committed_end f) (committed_end t)) (faults.OlderImage (pos (committed_end f)) (pos (committed_end t))) _ (λ _.
+      when (Holds m) (no m) (nat_lt (closed_end_of f) (committed_end t)) (faults.OlderImage (pos (closed_end_of f)) (pos (committed_end t))) _ (λ _.
       copied from to f t is_f is_t none (reads f is_f)))))
     where
       copied : (from to : ℕ) (f t : RunNode) → slice_get r.nodes from ≡ Some f → slice_get r.nodes to ≡ Some t → t.state.world.leading ≡ None
-          → image_of (image_text (pos (committed_end f)) (image_of_end f.state)) ≡ Ok (pos (committed_end f), image_of_end f.state)
-          → Holds (moves.Copy from to) (load_on (with_event options r from f events.Image) to (pos (committed_end f), image_of_end f.state))
+          → image_of (image_text (pos (closed_end_of f)) (image_of_closed f.state)) ≡ Ok (pos (closed_end_of f), image_of_closed f.state)
+          → Holds (moves.Copy from to) (load_on (with_event options r from f events.Image) to (pos (closed_end_of f), image_of_closed f.state))
       copied from to f t is_f is_t none reads =
           let between = with_event options r from f events.Image in
           let first = takes_one options r past h from f is_f events.Image between refl refl in
-          let image = image_of_end f.state in
-          let end = committed_end f in
+          let image = image_of_closed f.state in
+          let end = closed_end_of f in
           let event = events.Load (image_text (pos end) image) in
           let H = Holds (moves.Copy from to) in
           there H (no (moves.Copy from to)) between to (λ n. Ok (put_node between to (after_arrival n (take_image n.state (pos end, image))))) (λ n is_n.
@@ -210,7 +210,7 @@ module _ (options : Options) (r : Run) (past : ℕ → List Event) (h : Stand op
           let m = after_arrival n (take_image n.state (pos end, image)) in
           let quiet = none_waiting options n (on_by options past ((from, events.Image) ∷ []) to) (first.nodes to n is_n) still in
           from_events (moves.Copy from to) (put_node between to m) ((from, events.Image) ∷ (to, event) ∷ [])
-          (at_there from f (λ x. (from, events.Image) ∷ (to, events.Load (image_text (pos (committed_end x)) (image_of_end x.state))) ∷ []) is_f)
+          (at_there from f (λ x. (from, events.Image) ∷ (to, events.Load (image_text (pos (closed_end_of x)) (image_of_closed x.state))) ∷ []) is_f)
           (in_two options (put_node between to m) past ((from, events.Image) ∷ []) ((to, event) ∷ [])
           (comes_one options between (on_by options past ((from, events.Image) ∷ [])) first to n m is_n event quiet refl refl quiet (image_comes options n end image still reads)
           (arrival_lead n (take_image n.state (pos end, image)) (image_lead n.state end image) ∙ still) (put_node between to m) refl refl)))

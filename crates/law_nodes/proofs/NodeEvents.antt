@@ -20,7 +20,8 @@ use Rattle.kr_model.specs.Events.{at_time_of, outcome, with_next_number}
 use Rattle.kr_model.specs.Outputs.{answers_in, answers_now, append, append_fencings, appends, due_reply, if_accepted, images, is_open, is_open_in, next_batch, outputs_by, writes_of}
 use Rattle.kr_model.specs.Request.{decision, is_decided}
 use Rattle.kr_model.specs.Tick.{fence, fencing_of, lapsed_contacts}
-use Rattle.kr_model.specs.World.{State, World, image_of_tip}
+use Rattle.kr_model.specs.Lead.{giving_up, taking_over}
+use Rattle.kr_model.specs.World.{State, World, closed_of, image_of_tip}
 use Rattle.law_nodes.specs.NodeEvents.{NodesTakeEvents, ActsAsController, is_reply, as_output, writes_in}
 use Rattle.law_nodes.specs.Nodes.{RunNode, Waiting, after_by, batch_for, batches_of, fencing_batches, tells_by, told_now, told_write, waits_in, writes_with}
 use Rattle.law_nodes.specs.OneList.{list_items}
@@ -46,7 +47,7 @@ fencings_appended options (broker ∷ brokers) s =
     ∙ sym (map-append appended (batch_for s records) (fencing_batches options (fence options s broker) brokers)))
 
 all_appended : (options : Options) (s : State) (event : Event) → appends options s event ≡ map appended (batches_of options s event)
-all_appended options s (events.Lead epoch next now) = refl
+all_appended options s (events.Lead epoch next now) = one_appended (taking_over s epoch next) (giving_up (taking_over s epoch next).world)
 all_appended options s (events.Commit epoch end) = refl
 all_appended options s (events.Lost epoch) = refl
 all_appended options s (events.Batch bytes) = refl
@@ -92,12 +93,12 @@ write_replied k end w =
       | false ↦ refl
     ]
 
-all_replied : (k : ℕ) (w : World) (ws : List Waiting) → filter is_reply (answers_in w (writes_in ws)) ≡ map as_output (map (told_write k w.committed) (filter (λ x. not (waits_in w x)) ws))
+all_replied : (k : ℕ) (w : World) (ws : List Waiting) → filter is_reply (answers_in w (writes_in ws)) ≡ map as_output (map (told_write k (closed_of w)) (filter (λ x. not (waits_in w x)) ws))
 all_replied k w [] = refl
 all_replied k w (x ∷ ws) =
-    elim (not (waits_in w x)) as (λ b. filter is_reply (map (due_reply (pos w.committed)) (cond b (x.write ∷ filter (λ y. not (is_open w.leading (pos w.committed) y)) (writes_in ws)) (filter (λ y. not (is_open w.leading (pos w.committed) y)) (writes_in ws))))
-    ≡ map as_output (map (told_write k w.committed) (cond b (x ∷ filter (λ y. not (waits_in w y)) ws) (filter (λ y. not (waits_in w y)) ws)))) [
-      | true ↦ ap (λ (o : Output). o ∷ filter is_reply (answers_in w (writes_in ws))) (write_replied k w.committed x) ∙ ap (λ (os : List Output). as_output (told_write k w.committed x) ∷ os) (all_replied k w ws)
+    elim (not (waits_in w x)) as (λ b. filter is_reply (map (due_reply (pos (closed_of w))) (cond b (x.write ∷ filter (λ y. not (is_open w.leading (pos (closed_of w)) y)) (writes_in ws)) (filter (λ y. not (is_open w.leading (pos (closed_of w)) y)) (writes_in ws))))
+    ≡ map as_output (map (told_write k (closed_of w)) (cond b (x ∷ filter (λ y. not (waits_in w y)) ws) (filter (λ y. not (waits_in w y)) ws)))) [
+      | true ↦ ap (λ (o : Output). o ∷ filter is_reply (answers_in w (writes_in ws))) (write_replied k (closed_of w) x) ∙ ap (λ (os : List Output). as_output (told_write k (closed_of w) x) ∷ os) (all_replied k w ws)
       | false ↦ all_replied k w ws
     ]
 
@@ -154,7 +155,7 @@ module _ (options : Options) (k : ℕ) (n : RunNode) (event : Event) where
       ∙ (ap (λ (os : List Output). os ++ filter is_reply due) front
       ∙ (ap (λ (vs : List Write). told ++ filter is_reply (answers_in after.world vs)) (sym writes_are)
       ∙ (ap (λ (os : List Output). told ++ os) (all_replied k after.world ws)
-      ∙ sym (map-append as_output (flat_map (told_now k) now) (map (told_write k after.world.committed) (filter (λ x. not (waits_in after.world x)) ws))))))
+      ∙ sym (map-append as_output (flat_map (told_now k) now) (map (told_write k (closed_of after.world)) (filter (λ x. not (waits_in after.world x)) ws))))))
 
   pub takes : ActsAsController options k n event
   takes = record {

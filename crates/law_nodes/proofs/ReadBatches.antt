@@ -27,6 +27,7 @@ use Rattle.kr_defs.specs.declared.record.Record.{Record}
 use Rattle.kr_defs.specs.Image.{Image, IsValid}
 use Rattle.kr_defs.specs.ImageLaws.{as_items}
 use Rattle.kr_defs.specs.Log.{Log, tip}
+use Rattle.kr_defs.specs.LogStates.{closed}
 use Rattle.kr_defs.specs.Map as entries
 use Rattle.kr_defs.proofs.Tests.{Gives, both, gives_done, gives_refuse, ok_or_this}
 use Rattle.kr_model.specs.Entries.{entries_added, item_entries, items_from}
@@ -34,11 +35,13 @@ use Rattle.kr_model.specs.Outputs.{next_batch}
 use Rattle.kr_calls.specs.declared.events.Reason.{Reason}
 use Rattle.kr_calls.specs.Decide.{is_read}
 use Rattle.kr_model.specs.Events.{at_time_of, outcome}
+use Rattle.kr_model.specs.Lead.{taking_over}
 use Rattle.kr_model.specs.Reasons.{exhausted, led_epoch}
 use Rattle.kr_model.specs.Request.{after_ask, after_write, decision, is_decided}
 use Rattle.kr_model.specs.Tick.{fence, fence_all, fencing_of, lapsed_contacts}
 use Rattle.kr_model.specs.World.{State, image_of_tip, is_far, log_with, tip_of}
 use Rattle.kr_model.proofs.DueWrites.{batch_leaves}
+use Rattle.kr_model.proofs.Leaderships.{none_given_up}
 use Rattle.kr_model.proofs.LogEntries.{batch_written, behind, not_none}
 use Rattle.kr_model.proofs.Logs.{tip_written}
 use Rattle.kr_model.proofs.OrderlyStates.{none_lapses}
@@ -49,7 +52,7 @@ use Rattle.law_batch_limits.proofs.FittingRecords.{records_fit, requests_fit}
 use Rattle.law_safety.proofs.FencingSizes.{fencings_fit}
 use Rattle.law_nodes.specs.declared.moves.Move.{Move}
 use Rattle.law_nodes.specs.Moves.{run}
-use Rattle.law_nodes.specs.Nodes.{RunNode, batch_for, batches_for, fencing_batches}
+use Rattle.law_nodes.specs.Nodes.{RunNode, batch_for, batches_for, batches_of, fencing_batches}
 use Rattle.law_nodes.specs.OneList.{list_items}
 use Rattle.law_nodes.proofs.AllMoves.{run_is}
 use Rattle.law_nodes.proofs.Invariant.{IsCore, IsNode, at_node, core_at}
@@ -186,9 +189,20 @@ module _ (options : Options) where
 
 -- ---- any event of a node
 
+-- no transaction is open in its log, and so a new leader gives none up
+pub none_led : (list : List Batch) (elected : ℤ) (n : RunNode) → IsNode list elected n → (options : Options) (epoch next now : ℤ)
+    → batches_of options (at_time_of n.state (events.Lead epoch next now)) (events.Lead epoch next now) ≡ []
+none_led list elected n own options epoch next now =
+    let s : State = at_time_of n.state (events.Lead epoch next now) in
+    let there = following.has_plain_state n.state.world.log own.core.means (tip_of n.state) in
+    ap (λ (records : List Record). batch_for (taking_over s epoch next) records) (none_given_up s epoch next (closed there.0) there.1 refl)
+
 module _ (options : Options) (count : ℕ) (past : List Move) (k : ℕ) (n : RunNode) (is : slice_get (run options count past).nodes k ≡ Some n) where
   own : IsNode (run options count past).list (run options count past).elected n
   own = at_node (IsNode (run options count past).list (run options count past).elected) (run options count past).nodes k n (run_is options count past).nodes is
+
+  lead_reads : (epoch next now : ℤ) → AllByRecursion ReadsBack (batches_of options (at_time_of n.state (events.Lead epoch next now)) (events.Lead epoch next now))
+  lead_reads epoch next now = subst (AllByRecursion ReadsBack) (sym (none_led (run options count past).list (run options count past).elected n own options epoch next now)) tt
 
   module _ (client : ℕ) (now : ℤ) (call : Call) (after : State) where
     abbrev asking : Event
@@ -254,7 +268,7 @@ module _ (options : Options) (count : ℕ) (past : List Move) (k : ℕ) (n : Run
             (subst (λ (l : List Item). AllByRecursion IsHeldEntry (item_entries (pos (tip_of n.state)) l)) added held.added))
 
 pub appends_read_back : AppendsReadBack
-appends_read_back options count past k n (events.Lead epoch next now) after is got held = tt
+appends_read_back options count past k n (events.Lead epoch next now) after is got held = lead_reads options count past k n is epoch next now
 appends_read_back options count past k n (events.Commit epoch end) after is got held = tt
 appends_read_back options count past k n (events.Lost epoch) after is got held = tt
 appends_read_back options count past k n (events.Batch bytes) after is got held = tt

@@ -10,7 +10,7 @@ use Rattle.kr_calls.specs.declared.events.Output.{Output}
 use Rattle.kr_calls.specs.declared.events.Output.TheVariants as given
 use Rattle.kr_defs.specs.declared.record.Item.{Item}
 use Rattle.kr_defs.specs.Log.{Log}
-use Rattle.kr_model.specs.World.{World, leads_in, log_with}
+use Rattle.kr_model.specs.World.{World, leads_in, log_with, closed_of}
 use Rattle.law_nodes.specs.Agreement.{IsTold}
 use Rattle.law_nodes.specs.Nodes.{NodeTold, Waiting, told_now, told_write, waits_in}
 use Rattle.law_nodes.specs.OneList.{Follows, StandsIn, list_items}
@@ -53,7 +53,7 @@ waits_some log test (w ∷ ws) h =
 pub none_waits : (w : World) → w.leading ≡ None → (ws : List Waiting) → filter (waits_in w) ws ≡ []
 none_waits w none [] = refl
 none_waits w none (x ∷ ws) =
-    ap (λ (o : Option ℤ). cond (leads_in o x.write.epoch && int_lt (pos w.committed) x.write.need) (x ∷ filter (waits_in w) ws) (filter (waits_in w) ws)) none
+    ap (λ (o : Option ℤ). cond (leads_in o x.write.epoch && int_lt (pos (closed_of w)) x.write.need) (x ∷ filter (waits_in w) ws) (filter (waits_in w) ws)) none
     ∙ none_waits w none ws
 
 -- ---- what is told

@@ -15,19 +15,19 @@ use Rattle.kr_defs.specs.declared.options.Options.{Options}
 use Rattle.kr_defs.specs.declared.record.Item.TheVariants as items
 use Rattle.kr_defs.specs.Image.{Image}
 use Rattle.kr_defs.specs.ImageLaws.{as_items}
-use Rattle.kr_defs.specs.Log.{first_ill}
+use Rattle.kr_defs.specs.LogStates.{first_ill_at}
 use Rattle.kr_defs.proofs.Tests.{Gives, gives_done, gives_refuse, gives_then}
 use Rattle.kr_snapshot.specs.Reading.{image_of}
 use Rattle.kr_model.specs.Batch.{after_batch, batch_or, end_of, take_batch, unless_ill}
 use Rattle.kr_model.specs.Commit.{after_commit, is_end}
 use Rattle.kr_model.specs.Events.{at_time_of, outcome, time_after}
-use Rattle.kr_model.specs.Lead.{after_lead, may_begin_at}
+use Rattle.kr_model.specs.Lead.{after_lead, giving_up, may_begin_at, taking_over}
 use Rattle.kr_model.specs.Load.{after_load, image_or, take_image}
 use Rattle.kr_model.specs.Lost.{after_lost}
 use Rattle.kr_model.specs.Reasons as reasons
 use Rattle.kr_model.specs.Request.{after_ask, after_write, decision, is_decided}
 use Rattle.kr_model.specs.Tick.{fence, fence_all, fencing_of, lapsed_contacts}
-use Rattle.kr_model.specs.World.{State, image_of_tip, is_far, leads_in, tip_of, with_batch}
+use Rattle.kr_model.specs.World.{State, image_of_tip, is_far, leads_in, state_of_tip, tip_of, with_batch}
 use Rattle.kr_model.proofs.DueWrites.{batch_leaves}
 use Rattle.law_nodes.specs.Nodes.{RunNode, after_by, after_event}
 
@@ -94,7 +94,7 @@ module _ (options : Options) where
         let P = SameTime s in
         gives_refuse P (reasons.already_leading s.world.leading) (is_some s.world.leading) _ (λ _. gives_then (λ (b : Batch). Unit {0}) P (batch_or (batch_of bytes)) (take_batch s) (λ _ _. tt) (λ b _.
         gives_refuse P (reasons.gap (pos s.world.committed) b.base) (not (int_eq b.base (pos s.world.committed))) _ (λ _. gives_refuse P (reasons.exhausted (end_of b)) (is_far (end_of b)) _ (λ _.
-        ill_time b (first_ill (image_of_tip s) (pos (tip_of s)) b.items)))))
+        ill_time b (first_ill_at (state_of_tip s) (tip_of s) b.items)))))
     time_kept (events.Load bytes) =
         let P = SameTime s in
         gives_refuse P (reasons.already_leading s.world.leading) (is_some s.world.leading) _ (λ _. gives_then (λ (x : ℤ × Image). Unit {0}) P (image_or (image_of bytes)) (take_image s) (λ _ _. tt) (λ x _.
@@ -114,7 +114,8 @@ module _ (options : Options) where
         let P = SameEnd s in
         gives_refuse P (reasons.already_leading s.world.leading) (is_some s.world.leading) _ (λ _. gives_refuse P (reasons.old_epoch epoch s.world.greatest) (not (int_lt s.world.greatest epoch)) _ (λ _.
         gives_refuse P (reasons.bad_next next (pos s.world.committed)) (not (may_begin_at s.world next)) _ (λ _. gives_refuse P (reasons.exhausted next) (is_far next) _ (λ _.
-        gives_done P (after_lead s epoch next) (led_end next (int_eq next (pos s.world.committed)))))))
+        gives_done P (after_lead s epoch next)
+        ((batch_leaves (taking_over s epoch next).world (as_items (giving_up (taking_over s epoch next).world))).committed ∙ led_end next (int_eq next (pos s.world.committed)))))))
     end_kept (events.Lost epoch) kind =
         let P = SameEnd s in gives_refuse P (reasons.not_leading epoch s.world.leading) (not (leads_in s.world.leading epoch)) _ (λ _. gives_done P (after_lost s) refl)
     end_kept (events.Tick now) kind =

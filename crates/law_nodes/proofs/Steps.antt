@@ -1,5 +1,5 @@
 -- Each move keeps it.
-use Rattle.std.proofs.Common.{◌≡◌, ◌∙◌, sym, subst, ℕ, zero, suc, ℤ, pos, ◌+◌, true, false, cond, Bool, List, [], ◌∷◌, ◌++◌, length, set, refl, ap, arith}
+use Rattle.std.proofs.Common.{◌≡◌, ◌∙◌, sym, subst, ℕ, zero, suc, ℤ, pos, ◌+◌, true, false, cond, Bool, List, [], ◌∷◌, ◌++◌, length, map, set, refl, ap, arith}
 use Rattle.std.specs.Prelude.{Option, Some, None, Result, Ok, Err, IsOk, int_lt, nat_lt, ◌==◌, ◌&&◌, not, filter, is_some}
 use Rattle.std.specs.List.{AllByRecursion, flat_map, slice_get}
 use Rattle.std.specs.Ordering.{int_eq}
@@ -16,26 +16,30 @@ use Rattle.kr_defs.specs.declared.ill.Ill.{Ill}
 use Rattle.kr_defs.specs.declared.options.Options.{Options}
 use Rattle.kr_defs.specs.declared.record.Item.{Item}
 use Rattle.kr_defs.specs.declared.record.Item.TheVariants as items
+use Rattle.kr_defs.specs.declared.record.Record.{Record}
 use Rattle.kr_defs.specs.Image.{Image, empty}
-use Rattle.kr_defs.specs.Log.{Log, apply_all, first_ill}
+use Rattle.kr_defs.specs.Log.{Log, apply_all, tip}
+use Rattle.kr_defs.specs.LogStates.{closed, first_ill_at}
 use Rattle.kr_defs.proofs.IdLists.{id_itself}
 use Rattle.kr_defs.proofs.Tests.{Gives, gives_done, gives_refuse, some_is}
 use Rattle.kr_model.specs.Batch.{after_batch, end_of, take_batch, unless_ill}
 use Rattle.kr_model.specs.Commit.{after_commit, is_end}
 use Rattle.kr_model.specs.Events.{at_time_of, next_number, outcome, time_after, with_next_number}
-use Rattle.kr_model.specs.Lead.{after_lead, may_begin_at}
+use Rattle.kr_model.specs.Lead.{after_lead, giving_up, may_begin_at, taking_over}
 use Rattle.kr_model.specs.Load.{after_load, take_image}
 use Rattle.kr_model.specs.Lost.{after_lost, cut, lost}
 use Rattle.kr_model.specs.Outputs.{answers_now}
 use Rattle.kr_model.specs.Reasons as reasons
 use Rattle.kr_model.specs.Request.{after_ask, is_decided}
 use Rattle.kr_model.specs.Tick.{fence_all, lapsed_contacts}
-use Rattle.kr_model.specs.World.{State, image_of_end, image_of_tip, is_far, leads_in, seen_at, tip_of, with_batch}
+use Rattle.kr_model.specs.World.{State, World, closed_of, image_of_closed, is_far, leads_in, seen_at, state_of_tip, tip_of, with_batch, with_records}
+use Rattle.kr_model.proofs.DueWrites.{lead_leading}
+use Rattle.kr_model.proofs.Leaderships.{none_given_up}
 use Rattle.kr_model.proofs.OrderlyStates.{none_lapses}
 use Rattle.law_nodes.specs.declared.moves.MoveFault.{MoveFault}
 use Rattle.law_nodes.specs.Moves as table
 use Rattle.law_nodes.specs.Moves.{put_node, deposed, feed_next, if_node, length_of, load_on, on_standby, settle_first, with_event, after_arrival, while_leading, on_node}
-use Rattle.law_nodes.specs.Nodes.{RunNode, NodeTold, Run, Waiting, after_by, after_event, at_own_end, batches_of, fencing_batches, tells_by, told_due, told_now, told_of, waits_in, writes_with}
+use Rattle.law_nodes.specs.Nodes.{RunNode, NodeTold, Run, Waiting, after_by, after_event, at_own_end, batch_for, batches_of, fencing_batches, tells_by, told_due, told_now, told_of, told_write, waits_in, writes_with}
 use Rattle.law_nodes.specs.OneList.{Follows, batch_from, list_items}
 use Rattle.law_nodes.proofs.Invariant.{IsCore, IsNode, IsRun, Leads, OneLeads, all_put, at_node, core_at, never, one_put}
 use Rattle.law_nodes.proofs.LeaderLogs.{asked, core_fenced, core_more, leading_fenced, waits_fenced}
@@ -120,7 +124,9 @@ module _ (options : Options) (list : List Batch) (elected : ℤ) (k : ℕ) (n : 
   fine after core waits leading = record {
     core = core;
     waits = waits_some after.world.log (waits_in after.world) ws waits;
-    told = all_told list after.world.log after.world.committed k core.committed _ (waits_some after.world.log (λ x. not (waits_in after.world x)) ws waits);
+    told =
+        subst (λ (end : ℕ). AllTold list (map (told_write k end) (filter (λ x. not (waits_in after.world x)) ws))) (sym (Logs.all_closed after.world.log core.means after.world.committed))
+        (all_told list after.world.log after.world.committed k core.committed _ (waits_some after.world.log (λ x. not (waits_in after.world x)) ws waits));
     leading = leading;
   }
 
@@ -225,9 +231,12 @@ module _ (options : Options) (list : List Batch) (elected : ℤ) (k : ℕ) (n : 
         waits = subst (AllWait (cut s.world.log s.world.committed)) (sym (none_waits (after_lost s).world refl (writes_with options s n.waiting event))) tt;
         idle = λ _. none_waits (after_lost s).world refl (writes_with options s n.waiting event);
       } in
+      let untold : List Waiting = filter (λ x. not (waits_in (after_lost s).world x)) (writes_with options s n.waiting event) in
+      let all = Logs.all_closed (cut s.world.log s.world.committed) after.core.means s.world.committed in
       let told : AllTold list (tells_by options k n s event (Ok (after_lost s))) =
-      all_told list s.world.log s.world.committed k c.committed _
-      (waits_some s.world.log (λ x. not (waits_in (after_lost s).world x)) (writes_with options s n.waiting event) (same_waits s.world.log i.waits)) in (
+      subst (λ (end : ℕ). AllTold list (map (told_write k end) untold)) (sym all)
+      (all_told list s.world.log s.world.committed k c.committed untold
+      (waits_some s.world.log (λ x. not (waits_in (after_lost s).world x)) (writes_with options s n.waiting event) (same_waits s.world.log i.waits))) in (
         subst (λ q. IsNode list elected (at_own_end (after_by options n s event q))) (sym done) after,
         subst (λ q. AllTold list (tells_by options k n s event q)) (sym done) told,
         ap (λ q. (after_by options n s event q).state.world.leading) done,
@@ -310,11 +319,11 @@ module _ (options : Options) (list : List Batch) (elected : ℤ) (k : ℕ) (n : 
         let s = n.state in
         taken_is (take_batch s b)
         (gives_refuse Taken (reasons.gap (pos s.world.committed) b.base) (not (int_eq b.base (pos s.world.committed))) _ (λ _. gives_refuse Taken (reasons.exhausted (end_of b)) (is_far (end_of b)) _ (λ _.
-        ill_fine b (first_ill (image_of_tip s) (pos (tip_of s)) b.items) (fed_fine b bs ahead whole))))
+        ill_fine b (first_ill_at (state_of_tip s) (tip_of s) b.items) (fed_fine b bs ahead whole))))
 
     loaded_fine : (log : Log) (end : ℕ) → Follows list log end → IsOk (apply_all log.image log.items) → Taken (after_load n.state end (seen_at log end))
     loaded_fine log end f means =
-        let follows = Logs.load_image list log end (seen_at log end) f (Logs.seen list log end f means) in (
+        let follows = Logs.load_image list log end (seen_at log end) f means (Logs.seen list log end f means) in (
           record {
             core = record {
               committed = follows;
@@ -355,9 +364,17 @@ module _ (options : Options) (list : List Batch) (elected : ℤ) (k : ℕ) (n : 
       abbrev after : State
       after = after_lead (at leads_now) epoch (pos n.state.world.committed)
 
-      led_core : (b : Bool) → b ≡ true
-          → IsCore list epoch (record { world = record (cond b n.state.world (with_batch n.state.world (items.Control ∷ []))) { leading = Some epoch; greatest = epoch }; basis = after.basis }) n.state.world.committed []
-      led_core true is = record {
+      -- nothing is open, and so nothing is given up
+      none_given : giving_up (taking_over (at leads_now) epoch (pos n.state.world.committed)).world ≡ []
+      none_given =
+          let there = Logs.has_plain_state n.state.world.log i.core.means (tip n.state.world.log) in
+          none_given_up (at leads_now) epoch (pos n.state.world.committed) (closed there.0) there.1 refl
+
+      abbrev begun : Bool → World
+      begun b = record (cond b n.state.world (with_batch n.state.world (items.Control ∷ []))) { leading = Some epoch; greatest = epoch }
+
+      begun_core : (b : Bool) → b ≡ true → IsCore list epoch (record { world = begun b; basis = after.basis }) n.state.world.committed []
+      begun_core true is = record {
         committed = i.core.committed;
         settles = Logs.same_end list n.state.world.log n.settled n.state.world.committed (sym same) i.core.settles;
         order = omega arith;
@@ -368,19 +385,27 @@ module _ (options : Options) (list : List Batch) (elected : ℤ) (k : ℕ) (n : 
         low = λ e is. let eq : epoch ≡ e = cc in grind (arith, ints);
         latest = λ _. all;
       }
-      led_core false is = absurd cc
+      begun_core false is = absurd cc
+
+      led_core : IsCore list epoch after n.state.world.committed (batches_of options (at leads_now) leads_now)
+      led_core =
+          let w : World = begun (int_eq (pos n.state.world.committed) (pos n.state.world.committed)) in
+          subst (λ (records : List Record). IsCore list epoch (record { world = with_records w records; basis = after.basis }) n.state.world.committed (batch_for (taking_over (at leads_now) epoch (pos n.state.world.committed)) records)) (sym none_given)
+          (begun_core (int_eq (pos n.state.world.committed) (pos n.state.world.committed)) (id_itself (pos n.state.world.committed)))
+
+      leads_then : after.world.leading ≡ Some epoch
+      leads_then = lead_leading (at leads_now) epoch (pos n.state.world.committed) (let whole = tip_is_end in omega (arith, whole))
 
       led : Led epoch leads_now after
-      led =
-          let c = led_core (int_eq (pos n.state.world.committed) (pos n.state.world.committed)) (id_itself (pos n.state.world.committed)) in (
-            record {
-              core = core_at list epoch after n.state.world.committed [] (next_number after.world.count) after.basis.time c;
-              waits = subst (λ ws. AllWait after.world.log (filter (waits_in after.world) (ws ++ []))) (sym (i.idle none)) tt;
-              idle = λ none. absurd cc;
-            },
-            subst (λ ws. AllTold list (told_due k after.world (ws ++ []))) (sym (i.idle none)) tt,
-            refl,
-          )
+      led = (
+        record {
+          core = core_at list epoch after n.state.world.committed (batches_of options (at leads_now) leads_now) (next_number after.world.count) after.basis.time led_core;
+          waits = subst (λ ws. AllWait after.world.log (filter (waits_in after.world) (ws ++ []))) (sym (i.idle none)) tt;
+          idle = λ idle. absurd (never after.world.leading idle leads_then);
+        },
+        subst (λ ws. AllTold list (told_due k after.world (ws ++ []))) (sym (i.idle none)) tt,
+        ap (λ (o : Option ℤ). is_some o) leads_then,
+      )
 
       pub lead_fine : Gives (Led epoch leads_now) (outcome options (at leads_now) leads_now)
       lead_fine =
@@ -656,14 +681,20 @@ set_leading (x ∷ xs) (suc from) (suc to) f after n t is_f is_t is_n same = set
 module _ (options : Options) (r : Run) (g : IsRun r) where
   pub copies : (from to : ℕ) (f t : RunNode) → slice_get r.nodes from ≡ Some f → slice_get r.nodes to ≡ Some t → Keeps (table.copy options r from to f t)
   copies from to f t is_f is_t = standby to t.state.world.leading _ (λ none.
-      when (nat_lt f.state.world.committed t.state.world.committed) _ _ (λ _. tt) (λ _.
+      when (nat_lt (closed_of f.state.world) t.state.world.committed) _ _ (λ _. tt) (λ _.
       let i = node_is r g from f is_f in
       copied (kept_steps r g options from f events.Image is_f (image_fine options r.list r.elected from f i)) i none))
     where
-      copied : IsRun (with_event options r from f events.Image) → IsNode r.list r.elected f → t.state.world.leading ≡ None
-          → Keeps (load_on (with_event options r from f events.Image) to (pos f.state.world.committed, image_of_end f.state))
-      copied after i none = there (with_event options r from f events.Image) to _ (λ n is.
+      loaded : IsRun (with_event options r from f events.Image) → IsNode r.list r.elected f → t.state.world.leading ≡ None
+          → Keeps (load_on (with_event options r from f events.Image) to (pos f.state.world.committed, seen_at f.state.world.log f.state.world.committed))
+      loaded after i none = there (with_event options r from f events.Image) to _ (λ n is.
           let next = with_event options r from f events.Image in
           let idle : n.state.world.leading ≡ None = set_leading r.nodes from to f (after_event options f events.Image) n t is_f is_t is refl ∙ none in
           let load = loaded_is options r.list r.elected to n (node_is next after to n is) idle f.state.world.log f.state.world.committed i.core.committed i.core.means in
           kept_changed next after to n (after_arrival n (take_image n.state (pos f.state.world.committed, seen_at f.state.world.log f.state.world.committed))) is load.0 (λ l. absurd (never _ load.1 l)))
+
+      copied : IsRun (with_event options r from f events.Image) → IsNode r.list r.elected f → t.state.world.leading ≡ None
+          → Keeps (load_on (with_event options r from f events.Image) to (pos (closed_of f.state.world), image_of_closed f.state))
+      copied after i none =
+          subst (λ (end : ℕ). Keeps (load_on (with_event options r from f events.Image) to (pos end, seen_at f.state.world.log end))) (sym (Logs.all_closed f.state.world.log i.core.means f.state.world.committed))
+          (loaded after i none)

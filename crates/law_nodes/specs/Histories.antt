@@ -15,11 +15,11 @@ use Rattle.kr_snapshot.specs.Reading.{image_of}
 use Rattle.kr_model.specs.Events.{state}
 use Rattle.kr_model.specs.Outputs.{outputs, waiting_writes}
 use Rattle.kr_model.specs.Reasons.{led_epoch}
-use Rattle.kr_model.specs.World.{image_of_end}
+use Rattle.kr_model.specs.World.{image_of_closed}
 use Rattle.law_nodes.specs.declared.moves.Move.{Move}
 use Rattle.law_nodes.specs.declared.moves.Move.TheVariants as moves
 use Rattle.law_nodes.specs.declared.moves.MoveFault.{MoveFault}
-use Rattle.law_nodes.specs.Moves.{after_move, committed_end, move_outcome, run}
+use Rattle.law_nodes.specs.Moves.{after_move, closed_end_of, committed_end, move_outcome, run}
 use Rattle.law_nodes.specs.NodeEvents.{as_output, is_reply, writes_in}
 use Rattle.law_nodes.specs.Nodes.{NodeTold, Run, RunNode, first_run}
 use Rattle.law_nodes.specs.OneList.{batch_from}
@@ -41,7 +41,7 @@ move_events r (moves.Settle k) = []
 move_events r (moves.Tell k) = events_at r k (λ n. (k, events.Commit (led_epoch n.state.world.leading) (pos n.settled)) ∷ [])
 move_events r (moves.Depose k) = events_at r k (λ n. (k, events.Lost (led_epoch n.state.world.leading)) ∷ [])
 move_events r (moves.Copy from to) =
-    events_at r from (λ f. (from, events.Image) ∷ (to, events.Load (image_text (pos (committed_end f)) (image_of_end f.state))) ∷ [])
+    events_at r from (λ f. (from, events.Image) ∷ (to, events.Load (image_text (pos (closed_end_of f)) (image_of_closed f.state))) ∷ [])
 
 -- a refused move makes none happen
 abbrev pub events_by : Result Run MoveFault → List NodeEvent → List NodeEvent
@@ -65,7 +65,7 @@ abbrev pub ReadsMove : Run → Move → Type 0
 ReadsMove r (moves.Feed k) =
     (n : RunNode) (b : Batch) → slice_get r.nodes k ≡ Some n → batch_from (committed_end n) r.list ≡ Some b → batch_of (batch_bytes b) ≡ Ok b
 ReadsMove r (moves.Copy from to) =
-    (f : RunNode) → slice_get r.nodes from ≡ Some f → image_of (image_text (pos (committed_end f)) (image_of_end f.state)) ≡ Ok (pos (committed_end f), image_of_end f.state)
+    (f : RunNode) → slice_get r.nodes from ≡ Some f → image_of (image_text (pos (closed_end_of f)) (image_of_closed f.state)) ≡ Ok (pos (closed_end_of f), image_of_closed f.state)
 ReadsMove r other = Unit {0}
 
 abbrev pub AllRead : Options → Run → List Move → Type 0

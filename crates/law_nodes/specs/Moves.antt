@@ -14,7 +14,7 @@ use Rattle.kr_defs.specs.Image.{Image}
 use Rattle.kr_model.specs.Batch.{take_batch}
 use Rattle.kr_model.specs.Events.{with_next_number}
 use Rattle.kr_model.specs.Load.{take_image}
-use Rattle.kr_model.specs.World.{State, image_of_end}
+use Rattle.kr_model.specs.World.{State, closed_of, image_of_closed}
 use Rattle.law_nodes.specs.declared.moves.Move.{Move}
 use Rattle.law_nodes.specs.declared.moves.Move.TheVariants as moves
 use Rattle.law_nodes.specs.declared.moves.MoveFault.{MoveFault}
@@ -116,7 +116,10 @@ deposed options r k n event =
 abbrev pub depose : Options → Run → ℕ → RunNode → Result Run MoveFault
 depose options r k n = while_leading k n.state.world.leading (λ epoch. Ok (deposed options r k n (events.Lost epoch)))
 
--- ---- Copy: the image of one node's end, which another one loads
+-- ---- Copy: the image of one node's closed end, which another one loads
+
+abbrev pub closed_end_of : RunNode → ℕ
+closed_end_of n = closed_of n.state.world
 
 abbrev pub load_on : Run → ℕ → ℤ × Image → Result Run MoveFault
 load_on r k image = on_node r k (λ n. Ok (put_node r k (after_arrival n (take_image n.state image))))
@@ -124,8 +127,8 @@ load_on r k image = on_node r k (λ n. Ok (put_node r k (after_arrival n (take_i
 abbrev pub copy : Options → Run → ℕ → ℕ → RunNode → RunNode → Result Run MoveFault
 copy options r from to f t =
     on_standby to t.state.world.leading (
-    refuse faults.OlderImage (pos (committed_end f)) (pos (committed_end t)) when nat_lt (committed_end f) (committed_end t) else
-    load_on (with_event options r from f events.Image) to (pos (committed_end f), image_of_end f.state))
+    refuse faults.OlderImage (pos (closed_end_of f)) (pos (committed_end t)) when nat_lt (closed_end_of f) (committed_end t) else
+    load_on (with_event options r from f events.Image) to (pos (closed_end_of f), image_of_closed f.state))
 
 -- ---- all
 

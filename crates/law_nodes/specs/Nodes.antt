@@ -18,7 +18,8 @@ use Rattle.kr_model.specs.Events.{at_time_of, outcome, with_next_number}
 use Rattle.kr_model.specs.Outputs.{answers_now, is_open_in, next_batch, writes_of}
 use Rattle.kr_model.specs.Request.{decision, is_decided}
 use Rattle.kr_model.specs.Tick.{fence, fencing_of, lapsed_contacts}
-use Rattle.kr_model.specs.World.{State, World, image_of_tip, start}
+use Rattle.kr_model.specs.Lead.{giving_up, taking_over}
+use Rattle.kr_model.specs.World.{State, World, closed_of, image_of_tip, start}
 use Rattle.law_nodes.specs.OneList.{list_items}
 
 -- a write that waits, and the items that were added with it
@@ -73,6 +74,7 @@ batches_for options s (asks.Call call) =
 batches_for options s (asks.Bare correlation fault) = []
 
 abbrev pub batches_of : Options → State → Event → List Batch
+batches_of options s (events.Lead epoch next now) = batch_for (taking_over s epoch next) (giving_up (taking_over s epoch next).world)
 batches_of options s (events.Tick now) = fencing_batches options s (lapsed_contacts options s)
 batches_of options s (events.Request client now ask) = batches_for options s ask
 batches_of options s other = []
@@ -114,14 +116,14 @@ abbrev pub told_now : ℕ → Output → List NodeTold
 told_now k (given.Reply client correlation reply) = told_without_place k client correlation reply ∷ []
 told_now k other = []
 
--- how a write ended that waits no more: it stands where it needs no more than is committed, else it was lost
+-- how a write ended that waits no more: it stands where it needs no more than is closed, else it was lost
 abbrev pub told_write : ℕ → ℕ → Waiting → NodeTold
 told_write k end w =
     if int_lt (pos end) w.write.need then told_without_place k w.write.client w.write.correlation w.write.refusal else
     record { node = k; client = w.write.client; correlation = w.write.correlation; place = w.write.decided.place; items = w.items; reply = w.write.reply }
 
 abbrev pub told_due : ℕ → World → List Waiting → List NodeTold
-told_due k w waiting = map (told_write k w.committed) (filter (λ x. not (waits_in w x)) waiting)
+told_due k w waiting = map (told_write k (closed_of w)) (filter (λ x. not (waits_in w x)) waiting)
 
 -- a refused event tells no client anything
 abbrev pub tells_by : Options → ℕ → RunNode → State → Event → Result State Reason → List NodeTold

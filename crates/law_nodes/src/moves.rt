@@ -56,7 +56,8 @@ pub enum Move {
         /// The node.
         node: u32,
     },
-    /// A node on standby gets the image of another node's committed end, or of its own.
+    /// A node on standby gets the image of another node's closed end, or of its own. No move opens a transaction, so that this is
+    /// the committed end.
     Copy {
         /// The node whose image it is.
         from: u32,

@@ -19,10 +19,10 @@ use Rattle.kr_defs.specs.declared.ill.Ill.{Ill}
 use Rattle.kr_defs.specs.declared.limits.TheConstants.{PLACES_END}
 use Rattle.kr_defs.specs.declared.options.Options.{Options}
 use Rattle.kr_defs.specs.declared.record.Item.{Item}
-use Rattle.kr_defs.specs.declared.record.Item.TheVariants as items
 use Rattle.kr_defs.specs.Image.{Image, IsValid}
 use Rattle.kr_defs.specs.ImageLaws.{as_items}
-use Rattle.kr_defs.specs.Log.{Log, first_ill, tip}
+use Rattle.kr_defs.specs.Log.{Log, tip}
+use Rattle.kr_defs.specs.LogStates.{first_ill_at}
 use Rattle.kr_defs.specs.Records.{records_of}
 use Rattle.std.specs.Result.{result_unwrap_or}
 use Rattle.kr_defs.proofs.Tests.{Gives, gives_done, gives_refuse, gives_then, none_is, not_false, ok_or_this}
@@ -32,14 +32,15 @@ use Rattle.kr_model.specs.Batch.{batch_or, end_of, batch, take_batch, after_batc
 use Rattle.kr_model.specs.Commit.{commit, after_commit, is_end}
 use Rattle.kr_model.specs.Entries.{entries_added, entries_by, items_from, log_entries}
 use Rattle.kr_model.specs.Events.{at_time_of, happens, outcome, with_next_number}
-use Rattle.kr_model.specs.Lead.{after_lead, lead, may_begin_at}
+use Rattle.kr_model.specs.Lead.{after_lead, giving_up, lead, may_begin_at, taking_over}
 use Rattle.kr_model.specs.Load.{image_or, load, take_image, after_load}
 use Rattle.kr_model.specs.Lost.{after_lost, cut, lost}
 use Rattle.kr_model.specs.Reasons as reasons
 use Rattle.kr_model.specs.Request.{after_ask, after_write, decision, is_decided, request}
 use Rattle.kr_model.specs.Tick.{fence, fence_all, fencing_of, lapsed_contacts, tick}
-use Rattle.kr_model.specs.World.{State, World, image_of_tip, is_far, leads_in, log_with, tip_of, with_batch}
+use Rattle.kr_model.specs.World.{State, World, image_of_tip, is_far, leads_in, log_with, state_of_tip, tip_of, with_batch}
 use Rattle.kr_model.proofs.DueWrites.{batch_leaves}
+use Rattle.kr_model.proofs.Leaderships.{control_if, lead_written}
 use Rattle.kr_model.proofs.LoadedImages.{IsLoadable, loaded_valid}
 use Rattle.kr_model.proofs.LogEntries.{batch_written, behind, cut_behind}
 use Rattle.law_published_log.specs.FollowingLaws.{log_from}
@@ -121,15 +122,18 @@ module _ (options : Options) (s : State) where
   abbrev P : State → Type 0
   P after = Moves s.world after.world
 
-  longer_control : (b : Bool) (epoch : ℤ) → s.world.leading ≡ None → (after : World) → after.log ≡ (cond b s.world (with_batch s.world (items.Control ∷ []))).log → Longer s.world after
-  longer_control true epoch none after is = record { items = []; writes = is ∙ none_more s.world.log; led = λ some. absurd (not_none s.world.leading none some) }
-  longer_control false epoch none after is = record { items = items.Control ∷ []; writes = is ∙ batch_written s.world (items.Control ∷ []); led = λ some. absurd (not_none s.world.leading none some) }
+  longer_lead : (epoch next : ℤ) → s.world.leading ≡ None → Longer s.world (after_lead s epoch next).world
+  longer_lead epoch next none = record {
+    items = control_if (int_eq next (pos s.world.committed)) ++ as_items (giving_up (taking_over s epoch next).world);
+    writes = lead_written s epoch next;
+    led = λ some. absurd (not_none s.world.leading none some);
+  }
 
   leads_on : (epoch next : ℤ) → Gives P (lead s epoch next)
   leads_on epoch next =
       gives_refuse P (reasons.already_leading s.world.leading) (is_some s.world.leading) _ (λ standby. gives_refuse P (reasons.old_epoch epoch s.world.greatest) (not (int_lt s.world.greatest epoch)) _ (λ _.
       gives_refuse P (reasons.bad_next next (pos s.world.committed)) (not (may_begin_at s.world next)) _ (λ _. gives_refuse P (reasons.exhausted next) (is_far next) _ (λ _.
-      gives_done P (after_lead s epoch next) (inl (longer_control (int_eq next (pos s.world.committed)) epoch (none_is s.world.leading standby) (after_lead s epoch next).world refl))))))
+      gives_done P (after_lead s epoch next) (inl (longer_lead epoch next (none_is s.world.leading standby)))))))
 
   commits_on : (epoch end : ℤ) → Gives P (commit s epoch end)
   commits_on epoch end =
@@ -150,7 +154,7 @@ module _ (options : Options) (s : State) where
   follows_on bytes =
       gives_refuse P (reasons.already_leading s.world.leading) (is_some s.world.leading) _ (λ none. gives_then (λ (b : Batch). Unit {0}) P (batch_or (batch_of bytes)) (take_batch s) (λ _ _. tt) (λ batch _.
       gives_refuse P (reasons.gap (pos s.world.committed) batch.base) (not (int_eq batch.base (pos s.world.committed))) _ (λ _. gives_refuse P (reasons.exhausted (end_of batch)) (is_far (end_of batch)) _ (λ _.
-      ill_on batch (first_ill (image_of_tip s) (pos (tip_of s)) batch.items)))))
+      ill_on batch (first_ill_at (state_of_tip s) (tip_of s) batch.items)))))
 
   ticks_on : Gives P (tick options s)
   ticks_on =

@@ -9,17 +9,17 @@ use Rattle.kr_calls.specs.declared.events.Entry.{Entry}
 use Rattle.kr_calls.specs.declared.events.Entry.TheVariants as entries
 use Rattle.kr_calls.specs.Decide.{Decision, decide}
 use Rattle.kr_calls.specs.SeatList.{image_below, is_below, reached}
-use Rattle.kr_model.specs.World.{seen_at}
+use Rattle.kr_model.specs.World.{seen_at, seen_state}
 
 -- the items stand in the list, one behind the other from the place on
 abbrev pub HaveItems : List Entry → ℤ → List Item → Type 0
 HaveItems list place [] = Unit {0}
 HaveItems list place (item ∷ items) = Contains list (entries.Item place item) × HaveItems list (place +ℤ pos 1) items
 
--- The list shows the log up to the end: its image and end are those of the log there, its image below each earlier place is
+-- The list shows the log up to the end: its state and end are those of the log there, its image below each earlier place is
 -- the log's, the log's items stand in it, and all of it is below the end.
 pub record Shows (log : Log) (end : ℕ) (list : List Entry) : Type 0 where
-  pub whole : reached list ≡ record { image = seen_at log end; end = pos end }
+  pub whole : reached list ≡ record { state = seen_state log end; end = pos end }
   pub low : All (λ e. IsTrue (is_below (pos end) e)) list
   pub images : (place : ℕ) → log.offset ≤ place → place ≤ end → image_below (pos place) list ≡ seen_at log place
   pub items : HaveItems list (pos log.offset) (take (end - log.offset) log.items)

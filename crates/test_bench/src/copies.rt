@@ -1,8 +1,8 @@
 //! Copies of an image: one change is published again and again, or one topic is read, by one thread or by each of two.
 
-ghost use Rattle.std.specs.Prelude.{◌≡◌, true, IfOk, IsTrue, OnOk};
+ghost use Rattle.std.specs.Prelude.{◌≡◌, false, true, IfOk, IsTrue, OnOk};
 ghost use Rattle.kr_calls.specs.Decide.{is_read};
-ghost use Rattle.kr_view.specs.Staged.{is_logged};
+ghost use Rattle.kr_view.specs.Staged.{is_begin, is_logged};
 ghost use Rattle.kr_view.specs.StagedLaws.{HasNothing, IsLogged};
 
 use crate::entries::{partition, topic_name};
@@ -99,7 +99,7 @@ fn options(alloc: Global) -> Options {
 
 // The two topics with so many partitions together, as an image.
 fn image(alloc: Global, partitions: i32) -> Result<Entry>
-    ensures { IfOk result (λ e. is_logged e ≡ true) }
+    ensures { IfOk result (λ e. (is_logged e ≡ true) × (is_begin e ≡ false)) }
 {
     let mut records = Records::new(alloc);
     add_topic(alloc, MANY, partitions.wrapping_sub(1), &mut records)?;
@@ -121,7 +121,8 @@ fn add_topic(alloc: Global, id: u128, partitions: i32, records: &mut Records) ->
 
 // The first partition has another leader.
 fn change(round: u32) -> Entry
-    ensures { is_logged result ≡ true }
+    ensures logged { is_logged result ≡ true }
+    ensures begins { is_begin result ≡ false }
 {
     Entry::Item {
         place: i64::from(round) + 1,
@@ -146,6 +147,7 @@ fn change(round: u32) -> Entry
 fn show<R: Wait>(rt: &R, publisher: &mut Publisher, entry: Entry, end: i64) -> Result<()>
     requires nothing { HasNothing publisher.old }
     requires logged { is_logged entry ≡ true }
+    requires begins { is_begin entry ≡ false }
     ensures { OnOk result (HasNothing publisher.new) }
 {
     if publisher.stage(entry).is_err() {

@@ -1,1 +1,2 @@
+pub mod ClosedImages
 pub mod NextPlaces

@@ -1,8 +1,8 @@
 //! The image that a leading controller decides on.
 
 ghost use Rattle.std.specs.Prelude.{◌≡◌, ◌∷◌, [], int_lt, IfOk, IsTrue, OnErr, OnOk, Some};
-ghost use Rattle.kr_store.specs.Images.{last_kept};
-ghost use Rattle.testlib_rule_answers.specs.Histories.{AreEpochs};
+ghost use Rattle.kr_store.specs.Images.{IsAbove, forgotten, last_kept, marked};
+ghost use Rattle.testlib_rule_answers.specs.Histories.{AreClosed, AreEpochs};
 
 use crate::hearing::hear;
 use crate::serving::{fence, serve};
@@ -18,7 +18,7 @@ use std::marker::Model;
 use std::sync::ledger::Ledger;
 use testlib_words::RowFault;
 
-/// An image, and the place of the next record, under which alone it is kept.
+/// An image, and the place of the next record, under which alone it is kept. No transaction is open in it.
 #[derive(Drop)]
 pub(crate) struct LeaderImage {
     store: ImageStore,
@@ -28,18 +28,18 @@ pub(crate) struct LeaderImage {
 impl Model for LeaderImage {
     ghost use Rattle.std.specs.Prelude.{ℤ, ◌∷◌, []};
     ghost use Rattle.kr_store.specs.Images.{Images};
-    ghost use Rattle.testlib_rule_answers.specs.Histories.{AreEpochs};
+    ghost use Rattle.testlib_rule_answers.specs.Histories.{AreClosed, AreEpochs};
 
     ghost Value = { Images × ℤ };
 
     ghost view = { λ l. (l.store, l.place) };
 
-    ghost invariant = { λ l. AreEpochs l.store.kept (l.place ∷ []) };
+    ghost invariant = { λ l. AreEpochs l.store.kept (l.place ∷ []) × AreClosed l.store };
 }
 
 impl LeaderImage {
     /// Empty, at place 0.
-    #[tactic(auto, using(crate::proofs::NextPlaces::epochs_begun))]
+    #[tactic(auto, using(crate::proofs::NextPlaces::epochs_begun, crate::proofs::ClosedImages::closed_begun))]
     pub(crate) fn new(alloc: Global) -> Result<LeaderImage, NoMemory> {
         let mut store = ImageStore::new(alloc);
         store.mark(0)?;
@@ -129,16 +129,18 @@ fn context_of<'a>(options: &'a Options, sessions: &'a Sessions, now: i64, place:
 }
 
 // Makes the kept image the present one.
-#[tactic(auto, using(crate::proofs::NextPlaces::leading))]
+#[tactic(auto, using(crate::proofs::NextPlaces::leading, crate::proofs::ClosedImages::closed_back))]
 fn go_back<L: Ledger>(store: &mut ImageStore, place: &i64, steps: &mut Steps<L>)
-    requires { AreEpochs store.old.kept (place.now ∷ []) }
+    requires kept { AreEpochs store.old.kept (place.now ∷ []) }
+    requires closed { AreClosed store.old }
     ensures kept { AreEpochs store.new.kept (place.now ∷ []) }
+    ensures closed { AreClosed store.new }
     ensures last { last_kept store.new ≡ Some (place.now, store.new.tip) }
 {
     store.revert_to_last(steps);
 }
 
-#[tactic(auto, using(crate::proofs::NextPlaces::epochs_same))]
+#[tactic(auto, using(crate::proofs::NextPlaces::epochs_same, crate::proofs::ClosedImages::closed_decided))]
 fn decide<L: Ledger>(
     alloc: Global,
     store: &mut ImageStore,
@@ -147,8 +149,10 @@ fn decide<L: Ledger>(
     answer: &mut Effect,
     steps: &mut Steps<L>,
 ) -> Result<(), RowFault>
-    requires { AreEpochs store.old.kept (context.now.place ∷ []) }
-    ensures { AreEpochs store.new.kept (context.entry.now.place ∷ []) }
+    requires kept { AreEpochs store.old.kept (context.now.place ∷ []) }
+    requires closed { AreClosed store.old }
+    ensures kept { AreEpochs store.new.kept (context.entry.now.place ∷ []) }
+    ensures closed { AreClosed store.new }
 {
     if context.place < 0 || context.place > PLACES_END {
         return Err(RowFault::Fields);
@@ -157,7 +161,7 @@ fn decide<L: Ledger>(
     Ok(serve(alloc, store, context, request, answer, steps)?)
 }
 
-#[tactic(auto, using(crate::proofs::NextPlaces::epochs_same))]
+#[tactic(auto, using(crate::proofs::NextPlaces::epochs_same, crate::proofs::ClosedImages::closed_decided))]
 fn decide_fencing<L: Ledger>(
     alloc: Global,
     store: &mut ImageStore,
@@ -166,8 +170,10 @@ fn decide_fencing<L: Ledger>(
     answer: &mut Effect,
     steps: &mut Steps<L>,
 ) -> Result<(), RowFault>
-    requires { AreEpochs store.old.kept (context.now.place ∷ []) }
-    ensures { AreEpochs store.new.kept (context.entry.now.place ∷ []) }
+    requires kept { AreEpochs store.old.kept (context.now.place ∷ []) }
+    requires closed { AreClosed store.old }
+    ensures kept { AreEpochs store.new.kept (context.entry.now.place ∷ []) }
+    ensures closed { AreClosed store.new }
 {
     if context.place < 0 || context.place > PLACES_END {
         return Err(RowFault::Fields);
@@ -183,8 +189,10 @@ fn apply_all<L: Ledger>(
     records: &[Record],
     steps: &mut Steps<L>,
 ) -> Result<(), RowFault>
-    requires { AreEpochs store.old.kept (place.now ∷ []) }
-    ensures { AreEpochs store.new.kept (place.now ∷ []) }
+    requires kept { AreEpochs store.old.kept (place.now ∷ []) }
+    requires closed { AreClosed store.old }
+    ensures kept { AreEpochs store.new.kept (place.now ∷ []) }
+    ensures closed { AreClosed store.new }
 {
     for record in records {
         apply(store, place, record, steps)?;
@@ -192,15 +200,17 @@ fn apply_all<L: Ledger>(
     Ok(())
 }
 
-#[tactic(auto, using(crate::proofs::NextPlaces::leading))]
+#[tactic(auto, using(crate::proofs::NextPlaces::leading, testlib_rule_answers::proofs::ClosedStores::begins))]
 fn apply<L: Ledger>(
     store: &mut ImageStore,
     place: &i64,
     value: &Record,
     steps: &mut Steps<L>,
 ) -> Result<(), RowFault>
-    requires { AreEpochs store.old.kept (place.now ∷ []) }
-    ensures { AreEpochs store.new.kept (place.now ∷ []) }
+    requires kept { AreEpochs store.old.kept (place.now ∷ []) }
+    requires closed { AreClosed store.old }
+    ensures kept { AreEpochs store.new.kept (place.now ∷ []) }
+    ensures closed { AreClosed store.new }
 {
     match store.apply_record(*place, value, steps) {
         Ok(()) => Ok(()),
@@ -231,11 +241,31 @@ fn advance<L: Ledger>(
     steps: &mut Steps<L>,
 ) -> Result<(), NoMemory>
     requires kept { AreEpochs store.old.kept (place.now ∷ []) }
+    requires closed { AreClosed store.old }
     requires later { IsTrue (int_lt place.now next.now) }
     ensures ok { OnOk result (AreEpochs store.new.kept (next.now ∷ [])) }
     ensures err { OnErr result (AreEpochs store.new.kept (place.now ∷ [])) }
+    ensures closed { AreClosed store.new }
 {
-    store.mark(*next)?;
-    store.forget_below(*next, steps);
+    mark(store, next)?;
+    forget_below(store, next, steps);
     Ok(())
+}
+
+fn mark(store: &mut ImageStore, epoch: &i64) -> Result<(), NoMemory>
+    requires above { IsAbove store.old.kept epoch.now }
+    requires closed { AreClosed store.old }
+    ensures ok { OnOk result (store.new ≡ marked store.old epoch.now) }
+    ensures err { OnErr result (store.new ≡ store.old) }
+    ensures closed { AreClosed store.new }
+{
+    store.mark(*epoch)
+}
+
+fn forget_below<L: Ledger>(store: &mut ImageStore, epoch: &i64, steps: &mut Steps<L>)
+    requires { AreClosed store.old }
+    ensures left { store.new ≡ forgotten store.old epoch.now }
+    ensures closed { AreClosed store.new }
+{
+    store.forget_below(*epoch, steps);
 }

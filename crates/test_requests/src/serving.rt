@@ -3,6 +3,7 @@
 ghost use Rattle.std.specs.Prelude.{◌≡◌, IsSome, IsTrue, Some};
 ghost use Rattle.std.specs.Ordering.{int_cmp};
 ghost use Rattle.kr_defs.specs.Map as entries;
+ghost use Rattle.kr_store.specs.Images.{IsSettled};
 ghost use Rattle.kr_rules.specs.Handlers.{IsAtPlace};
 
 use kr_base::{NoMemory, Steps};
@@ -24,7 +25,9 @@ pub(crate) fn serve<L: Ledger>(
     steps: &mut Steps<L>,
 ) -> Result<(), NoMemory>
     requires { IsAtPlace store.old context.now.place }
-    ensures { store.new.kept ≡ store.old.kept }
+    ensures kept { store.new.kept ≡ store.old.kept }
+    ensures begins { store.new.kept_begun ≡ store.old.kept_begun }
+    ensures settled { IsSettled store.old → IsSettled store.new }
 {
     match kr_handlers::read(alloc, store, At::Tip, context.options, request) {
         Ok(Some(reply)) => out.reply = reply,
@@ -45,7 +48,9 @@ pub(crate) fn fence<L: Ledger>(
     steps: &mut Steps<L>,
 ) -> Result<(), RowFault>
     requires { IsAtPlace store.old context.now.place }
-    ensures { store.new.kept ≡ store.old.kept }
+    ensures kept { store.new.kept ≡ store.old.kept }
+    ensures begins { store.new.kept_begun ≡ store.old.kept_begun }
+    ensures settled { IsSettled store.old → IsSettled store.new }
 {
     if !is_registered(store, broker) {
         return Err(RowFault::Fields);

@@ -66,7 +66,7 @@ fn run_over(alloc: Global, words: &[&str], bytes: Vec<u8>, setup: Setup) -> Resu
 
 #[test]
 fn other_words(rt: HostRuntime) -> Result<(), Fail> {
-    let lists: [&[&str]; 15] = [
+    let lists: [&[&str]; 18] = [
         &[],
         &["sessions"],
         &["Session"],
@@ -77,6 +77,9 @@ fn other_words(rt: HostRuntime) -> Result<(), Fail> {
         &["make", "+1"],
         &["make", ""],
         &["make", "1", "1"],
+        &["nodes"],
+        &["nodes", "01"],
+        &["nodes", "1", "1"],
         &["balance"],
         &["balance", "07"],
         &["balance", "101"],
@@ -150,6 +153,9 @@ fn failing_notes(rt: HostRuntime) -> Result<(), Fail> {
     expect_told(&rt, rt.alloc(), 1)
 }
 
+// What 5,000 drawn moves of several controllers come to, by the model's own run of the number.
+const MOVED: &[u8] = b"moves 2260\nrefused 2740\nlength 65\ntold 28\n";
+
 // A batch that sets a value, the image that it makes, and the image's text.
 const BATCH: &str =
     "0000000000000000000000540000000502235de38000000000000000000000000003e800000000000003e8ffffffffffffffffffffffffffff000000014400000001380104000401146d696e2e696e73796e632e7265706c6963617302320000";
@@ -179,5 +185,13 @@ fn the_session_of_a_number_twice(rt: HostRuntime) -> Result<(), Fail> {
     assert_eq!(rt; (first.status, second.status), (Status::Done, Status::Done));
     assert!(rt; first.output.written().starts_with(b"events "));
     assert_eq!(rt; first.output.written(), second.output.written());
+    Ok(())
+}
+
+#[test]
+fn the_moves_of_a_number(rt: HostRuntime) -> Result<(), Fail> {
+    let ran = run_words(rt.alloc(), &["nodes", "1"], WHOLE)?;
+    assert_eq!(rt; ran.status, Status::Done);
+    assert_eq!(rt; ran.output.written(), MOVED);
     Ok(())
 }

@@ -12,6 +12,8 @@ mod image_beside_commits;
 #[cfg(test)]
 mod many_clients;
 #[cfg(test)]
+mod open_transaction;
+#[cfg(test)]
 mod pinned_place;
 #[cfg(test)]
 mod setup;

@@ -114,7 +114,7 @@ fn end_after(batch: &[u8]) -> i64 {
     }
 }
 
-fn options(alloc: Global) -> Result<Options, NoMemory>
+pub(crate) fn options(alloc: Global) -> Result<Options, NoMemory>
     ensures { IfOk result (λ options. IsTrue (are_options options)) }
 {
     Ok(Options {

@@ -1,7 +1,8 @@
 //! What tests of the copies show, and read.
 
-ghost use Rattle.kr_view.specs.StagedLaws.{HasNothing, IsPlain, is_plain_entry};
-ghost use Rattle.std.specs.Prelude.{IsTrue, OnOk};
+ghost use Rattle.kr_view.specs.Staged.{is_begin_record};
+ghost use Rattle.kr_view.specs.StagedLaws.{HasNothing, IsPlain};
+ghost use Rattle.std.specs.Prelude.{◌≡◌, false, IfOk, IsTrue, OnOk};
 ghost use Rattle.kr_calls.specs.Decide.{is_read};
 
 use kr_base::NoMemory;
@@ -24,7 +25,9 @@ pub(crate) fn options(alloc: Global) -> Options {
     }
 }
 
-pub(crate) fn topic(alloc: Global, name: &str, id: u128) -> Result<Record, NoMemory> {
+pub(crate) fn topic(alloc: Global, name: &str, id: u128) -> Result<Record, NoMemory>
+    ensures { IfOk result (λ r. is_begin_record r ≡ false) }
+{
     let name = Text::from_str(alloc, name)?;
     Ok(Record::Topic { name, id })
 }
@@ -36,7 +39,9 @@ fn broker_1(alloc: Global) -> Result<Ids, NoMemory> {
 }
 
 // A partition on broker 1.
-pub(crate) fn partition(alloc: Global, topic: u128, index: i32) -> Result<Record, NoMemory> {
+pub(crate) fn partition(alloc: Global, topic: u128, index: i32) -> Result<Record, NoMemory>
+    ensures { IfOk result (λ r. is_begin_record r ≡ false) }
+{
     let replicas = broker_1(alloc)?;
     let in_sync = broker_1(alloc)?;
     let state = Partition {
@@ -58,15 +63,17 @@ pub(crate) fn partition(alloc: Global, topic: u128, index: i32) -> Result<Record
     })
 }
 
+#[tactic(auto, using(crate::proofs::StagedItems::stays_plain))]
 pub(crate) fn stage_record(
     publisher: &mut Publisher,
     place: i64,
-    record: Record,
+    change: Record,
 ) -> Result<(), NoMemory>
-    requires { IsPlain publisher.old }
+    requires plain { IsPlain publisher.old }
+    requires begins { is_begin_record change ≡ false }
     ensures { OnOk result (IsPlain publisher.new) }
 {
-    let item = Item::Record(record);
+    let item = Item::Record(change);
     match publisher.stage(Entry::Item { place, item }) {
         Ok(()) => Ok(()),
         Err(_) => Err(NoMemory),
@@ -82,7 +89,7 @@ pub(crate) fn all_topics() -> Call
     }
 }
 
-// Shows what is staged, where that is neither an answer nor a pin.
+// Shows what is staged, where that is neither an answer nor a pin nor a begin.
 pub(crate) fn show_plain<R: Wait>(
     rt: &R,
     publisher: &mut Publisher,

@@ -11,6 +11,7 @@ use Rattle.kr_defs.proofs.Tests.{some_is}
 use Rattle.kr_store.specs.Images.{Images, IsAbove, kept_at, last_kept, reverted}
 use Rattle.kr_image.proofs.KeptLists.{filter_map_is}
 use Rattle.testlib_rule_answers.specs.Histories.{AreEpochs}
+use Rattle.testlib_rule_answers.proofs.ClosedStores.{without_later}
 
 module _ (kept : List (ℤ × Image)) (epochs : List ℤ) (are : AreEpochs kept epochs) where
   pub is_above : (epoch : ℤ) → list_all (λ e. int_lt e epoch) epochs ≡ true → IsAbove kept epoch
@@ -31,13 +32,13 @@ some_last (k ∷ ks) epochs are some = last_is k ks
 pub some_kept : (images : Images) (epochs : List ℤ) → AreEpochs images.kept epochs → (length epochs == 0) ≡ false → IsSome (last_kept images)
 some_kept images epochs are some = some_last images.kept epochs are some
 
-of_epoch : (o : Option Image) (kept : List (ℤ × Image)) (kept_made : List (ℤ × ℕ)) (after : Images) → option_map (λ (tip : Image). record { kept = kept; tip = tip; made = 0; kept_made = kept_made }) o ≡ Some after → after.kept ≡ kept
-of_epoch None kept kept_made after is = absurd cc
-of_epoch (Some tip) kept kept_made after is = ap (λ (i : Images). i.kept) (sym (some_is _ _ is))
+of_epoch : (images after : Images) (epoch : ℤ) (o : Option Image) → option_map (without_later images epoch) o ≡ Some after → after.kept ≡ filter (λ (k : ℤ × Image). not (int_lt epoch k.0)) images.kept
+of_epoch images after epoch None is = absurd cc
+of_epoch images after epoch (Some tip) is = ap (λ (i : Images). i.kept) (sym (some_is _ _ is))
 
 pub reverted_epochs : (images after : Images) (epochs : List ℤ) (epoch : ℤ) → AreEpochs images.kept epochs → reverted images epoch ≡ Some after → AreEpochs after.kept (filter (λ e. not (int_lt epoch e)) epochs)
 reverted_epochs images after epochs epoch are is =
-    ap (λ (ks : List (ℤ × Image)). map (λ (k : ℤ × Image). k.0) ks) (of_epoch (kept_at images epoch) (filter (λ (k : ℤ × Image). not (int_lt epoch k.0)) images.kept) (filter (λ (m : ℤ × ℕ). not (int_lt epoch m.0)) images.kept_made) after is)
+    ap (λ (ks : List (ℤ × Image)). map (λ (k : ℤ × Image). k.0) ks) (of_epoch images after epoch (kept_at images epoch) is)
     ∙ dropped images.kept epochs are (λ e. not (int_lt epoch e))
 
 pub ruleset kept = (is_above, some_kept)

@@ -1,2 +1,3 @@
+pub mod ClosedStores
 pub mod ContactRoom
 pub mod EpochRows

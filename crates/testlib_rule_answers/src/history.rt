@@ -2,10 +2,10 @@
 
 ghost use Rattle.std.specs.Prelude.{◌≡◌, ◌≤◌, OnOk, OnErr, IfOk, IsErr, IsSome, ◌↔◌, None, Some, filter, not, int_lt};
 ghost use Rattle.std.specs.List.{list_all};
-ghost use Rattle.kr_store.specs.Images.{no_images, marked, reverted, forgotten, kept_at, last_kept};
-ghost use Rattle.testlib_rule_answers.specs.Histories.{IsCause, Judged};
+ghost use Rattle.kr_store.specs.Images.{IsAbove, no_images, marked, reverted, forgotten, kept_at, last_kept};
+ghost use Rattle.testlib_rule_answers.specs.Histories.{AreClosed, IsCause, Judged};
 
-use kr_base::{NoEpoch, Steps};
+use kr_base::{NoEpoch, NoMemory, Steps};
 use kr_defs::{Ill, Record};
 use kr_image::ImageStore;
 use kr_store::{ApplyFault, Store};
@@ -25,13 +25,13 @@ pub struct History {
 
 impl Model for History {
     ghost use Rattle.kr_store.specs.Images.{Images};
-    ghost use Rattle.testlib_rule_answers.specs.Histories.{AreEpochs};
+    ghost use Rattle.testlib_rule_answers.specs.Histories.{AreClosed, AreEpochs};
 
     ghost Value = { Images };
 
     ghost view = { λ h. h.store };
 
-    ghost invariant = { λ h. AreEpochs h.store.kept h.epochs.items };
+    ghost invariant = { λ h. AreEpochs h.store.kept h.epochs.items × AreClosed h.store };
 }
 
 fn are_below(epochs: &[i64], limit: &i64) -> bool
@@ -53,6 +53,7 @@ fn drop_below(epochs: &mut Vec<i64>, limit: &i64)
 }
 
 // The record's image is the present one, or the cause why it has none.
+#[tactic(auto, using(crate::proofs::ClosedStores::begins))]
 fn judge<L: Ledger>(
     store: &mut ImageStore,
     place: i64,
@@ -62,6 +63,7 @@ fn judge<L: Ledger>(
     requires { IsSome (last_kept store.old) }
     ensures judged { IfOk result (λ cause. Judged store.old store.new value.now cause) }
     ensures kept { store.new.kept ≡ store.old.kept }
+    ensures closed { AreClosed store.old → AreClosed store.new }
 {
     match store.apply_record(place, value, steps) {
         Ok(()) => Ok(None),
@@ -90,7 +92,17 @@ fn revert_store<L: Ledger>(
     store.revert(*epoch, steps)
 }
 
+fn mark_store(store: &mut ImageStore, epoch: &i64) -> Result<(), NoMemory>
+    requires { IsAbove store.old.kept epoch.now }
+    ensures ok { OnOk result (store.new ≡ marked store.old epoch.now) }
+    ensures err { OnErr result (store.new ≡ store.old) }
+    ensures closed { AreClosed store.old → AreClosed store.new }
+{
+    store.mark(*epoch)
+}
+
 fn forget_store<L: Ledger>(store: &mut ImageStore, epoch: &i64, steps: &mut Steps<L>)
+    requires { AreClosed store.old }
     ensures { store.new ≡ forgotten store.old epoch.now }
 {
     store.forget_below(*epoch, steps);
@@ -98,6 +110,7 @@ fn forget_store<L: Ledger>(store: &mut ImageStore, epoch: &i64, steps: &mut Step
 
 impl History {
     /// The empty image, and none that is kept.
+    #[tactic(auto, using(crate::proofs::ClosedStores::begins))]
     pub fn new(alloc: Global) -> History
         ensures { result ≡ no_images }
     {
@@ -116,7 +129,7 @@ impl History {
             return Err(RowFault::Fields);
         }
         self.epochs.reserve(1)?;
-        self.store.mark(epoch)?;
+        mark_store(&mut self.store, &epoch)?;
         self.epochs.push_reserved(epoch);
         Ok(())
     }

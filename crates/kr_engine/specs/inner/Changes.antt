@@ -21,6 +21,7 @@ new_core options = record {
   heard = hearing.end;
   tip = pos 0;
   committed = pos 0;
+  closed = pos 0;
   leading = None;
   greatest = negsuc 0;
   count = 0;
@@ -60,7 +61,7 @@ Settles before after reason core = after ≡ refused_core_or before reason core
 
 -- an image is the only one that is kept
 abbrev pub core_at : Core → ℤ → Image → Core
-core_at e place image = record e { images = kept_once place image; tip = place; committed = place }
+core_at e place image = record e { images = kept_once place image; tip = place; committed = place; closed = place }
 
 -- ---- what is left of an event where memory was wanted, until it is taken back
 
@@ -76,6 +77,9 @@ pub record IsLonger (before after : Images) (place : ℤ) : Type 0 where
   pub counts : List (ℤ × ℕ)
   pub calls : after.kept_made ≡ before.kept_made ++ counts
   pub later_counts : AllByRecursion (λ (m : ℤ × ℕ). int_lt place m.0 ≡ true) counts
+  pub begins : List (ℤ × Option ℤ)
+  pub begun : after.kept_begun ≡ before.kept_begun ++ begins
+  pub later_begins : AllByRecursion (λ (b : ℤ × Option ℤ). int_lt place b.0 ≡ true) begins
 
 -- and some of its records, whatever the present image is
 pub record BreaksOff (before after : Core) : Type 0 where

@@ -7,4 +7,4 @@ use Rattle.kr_store.specs.Images.{kept_at}
 use Rattle.kr_model.specs.Engine.{Core}
 
 abbrev pub core_after_image : Core → Core
-core_after_image e = record e { given = e.given ++ given.Image (image_text e.committed (unwrap_or (kept_at e.images e.committed) empty)) ∷ [] }
+core_after_image e = record e { given = e.given ++ given.Image (image_text e.closed (unwrap_or (kept_at e.images e.closed) empty)) ∷ [] }

@@ -16,7 +16,7 @@ use Rattle.kr_calls.specs.Deciding.{weights}
 use Rattle.kr_calls.specs.NextBasis.{heartbeats_after}
 use Rattle.kr_calls.specs.Refuse.{refuse}
 use Rattle.kr_defs.specs.Image.{Image, empty}
-use Rattle.kr_store.specs.Images.{Images, kept_at}
+use Rattle.kr_store.specs.Images.{Images, IsSettled, kept_at}
 use Rattle.kr_model.specs.declared.writes.Decided.{Decided}
 use Rattle.kr_model.specs.declared.writes.Write.{Write}
 use Rattle.kr_model.specs.Engine.{Core, basis_of}
@@ -41,6 +41,8 @@ pub record Decides (before after : Core) (request : Request) (out : Effect) : Ty
   pub kept : after.images.kept ≡ before.images.kept
   pub made : after.images.made ≤ before.images.made + weights before.images.tip out.records
   pub calls : after.images.kept_made ≡ before.images.kept_made
+  pub begins : after.images.kept_begun ≡ before.images.kept_begun
+  pub settled : IsSettled before.images → IsSettled after.images
 
 -- where it is decided, and on what besides the image
 abbrev pub decided_at : Core → Request → Decided
@@ -84,12 +86,12 @@ pub record TakesWrite (before after : Core) (client : ℕ) (call : Call) : Type 
 abbrev pub core_with_output : Core → Output → Core
 core_with_output e output = record e { given = e.given ++ output ∷ [] }
 
-abbrev pub committed_image : Core → Image
-committed_image e = image_kept e.images e.committed
+abbrev pub closed_image : Core → Image
+closed_image e = image_kept e.images e.closed
 
--- a read is answered on the committed image; a write on standby is refused
+-- a read is answered on the image at the closed end; a write on standby is refused
 abbrev pub reply_at_once : Core → Request → Reply
-reply_at_once e request = unwrap_or (query e.options (committed_image e) request) (refuse request NOT_CONTROLLER)
+reply_at_once e request = unwrap_or (query e.options (closed_image e) request) (refuse request NOT_CONTROLLER)
 
 -- ---- what is asked
 

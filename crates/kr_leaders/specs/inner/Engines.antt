@@ -33,6 +33,7 @@ leader offset image = record {
   world = record {
     log = record { offset = unsigned_abs offset; image = image; items = [] };
     committed = unsigned_abs offset;
+    covered = [];
     batch_ends = [];
     leading = Some (pos 1);
     greatest = pos 1;
@@ -56,7 +57,7 @@ pub record IsLeader (e : Core) : Type 0 where
   pub image : Image
   pub leads : LeadsOn e offset image
 
--- the log is committed up to this place, and the image there is this one
+-- the log is committed up to this place, no transaction is open there, and the image is this one
 pub record Commits (e : Core) (end : ℤ) (image : Image) : Type 0 where
-  pub committed : e.committed ≡ end
+  pub closed : e.closed ≡ end
   pub kept : kept_at e.images end ≡ Some image

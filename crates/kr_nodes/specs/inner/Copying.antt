@@ -1,4 +1,4 @@
--- What the image of one node's end makes of another.
+-- What the image of one node's closed end makes of another.
 use Rattle.std.specs.Prelude.{◌≡◌, ◌⊎◌, ℕ, ℤ, pos, List, [], set, int_lt, IfSome, Some, None, Ok, true, false}
 use Rattle.std.specs.List.{slice_get}
 use Rattle.std.specs.Option.{unwrap_or}
@@ -9,7 +9,7 @@ use Rattle.kr_defs.specs.declared.options.Options.{Options}
 use Rattle.kr_defs.specs.Image.{Image, empty}
 use Rattle.kr_model.specs.Engine.{Core}
 use Rattle.kr_model.specs.Load.{take_image}
-use Rattle.kr_model.specs.World.{image_of_end}
+use Rattle.kr_model.specs.World.{image_of_closed}
 use Rattle.kr_snapshot.specs.Grammar.{IsImage}
 use Rattle.kr_snapshot.specs.ImageText.{image_text}
 use Rattle.kr_snapshot.specs.Reading.{image_of}
@@ -33,8 +33,8 @@ pub record MayCopy (nodes : List Node) (from to : ℕ) (end : ℤ) (fed : ℕ) :
   pub source_is : slice_get nodes from ≡ Some source
   pub target_is : slice_get nodes to ≡ Some target
   pub idle : target.engine.leading ≡ None
-  pub later : int_lt source.engine.committed target.engine.committed ≡ false
-  pub end_is : end ≡ source.engine.committed
+  pub later : int_lt source.engine.closed target.engine.committed ≡ false
+  pub end_is : end ≡ source.engine.closed
   pub fed_is : fed ≡ source.fed
 
 pub record IsOlder (nodes : List Node) (from to : ℕ) (fault : MoveFault) : Type 0 where
@@ -43,8 +43,8 @@ pub record IsOlder (nodes : List Node) (from to : ℕ) (fault : MoveFault) : Typ
   pub source_is : slice_get nodes from ≡ Some source
   pub target_is : slice_get nodes to ≡ Some target
   pub idle : target.engine.leading ≡ None
-  pub older : int_lt source.engine.committed target.engine.committed ≡ true
-  pub is : fault ≡ faults.OlderImage source.engine.committed target.engine.committed
+  pub older : int_lt source.engine.closed target.engine.committed ≡ true
+  pub is : fault ≡ faults.OlderImage source.engine.closed target.engine.committed
 
 pub record IsLeadingTarget (nodes : List Node) (to : ℕ) (fault : MoveFault) : Type 0 where
   pub target : Node
@@ -56,15 +56,15 @@ IsCopyFault nodes from to fault = IsLeadingTarget nodes to fault ⊎ IsOlder nod
 
 -- ---- the image
 
--- the image that is kept at the end
+-- the image that is kept at the closed end
 pub record IsImageEvent (e : Core) (event : Event) : Type 0 where
-  pub is : event ≡ events.Load (image_text e.committed (unwrap_or (kept_at e.images e.committed) empty))
-  pub stands : IfSome (kept_at e.images e.committed) (λ image. IsImage e.committed image (image_text e.committed image))
+  pub is : event ≡ events.Load (image_text e.closed (unwrap_or (kept_at e.images e.closed) empty))
+  pub stands : IfSome (kept_at e.images e.closed) (λ image. IsImage e.closed image (image_text e.closed image))
 
--- it is read as the image of the end
+-- it is read as the image of that end
 abbrev pub GivesImage : Node → Event → Type 0
 GivesImage node (events.Load bytes) =
-    (options : Options) (list : List Batch) (n : RunNode) → StandsForNode options list n node → image_of bytes ≡ Ok (node.engine.committed, image_of_end n.state)
+    (options : Options) (list : List Batch) (n : RunNode) → StandsForNode options list n node → image_of bytes ≡ Ok (node.engine.closed, image_of_closed n.state)
 GivesImage node other = ⊥
 
 pub record ImagesNode (k : ℕ) (before after : Node) (shared shared' : Shared) (event : Event) : Type 0 where

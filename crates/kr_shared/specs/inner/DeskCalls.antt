@@ -39,10 +39,10 @@ module _ {Q : Type 0} (pieces : Q → Option (List (List ℕ))) (faults : Q → 
 abbrev pub DeskWrites : Outside → DeskState → DeskState → Caller → Call → Type 0
 DeskWrites o old new c call = DoesWrite (int_lt old.engine.tip c.floor) o (settled old) (settled new) c.seat c.ticket c.floor call
 
--- a client's pin of the committed end, answered so too
+-- a client's pin of the closed end, answered so too
 abbrev pub DeskPins : DeskState → DeskState → Caller → Type 0
 DeskPins old new c =
-    NotesUnlessAhead (int_lt old.engine.tip c.floor) (settled old) (settled new) c.seat c.ticket (pin_entry c.seat c.ticket old.engine.committed)
+    NotesUnlessAhead (int_lt old.engine.tip c.floor) (settled old) (settled new) c.seat c.ticket (pin_entry c.seat c.ticket old.engine.closed)
 
 -- a job
 abbrev pub DeskDoesJob : Outside → DeskState → DeskState → Job → Option Reason → Type 0

@@ -1,16 +1,8 @@
-use Rattle.std.proofs.Common.{◌≡◌, drop}
-use Rattle.std.specs.Prelude.{◌+ℤ◌, pos, IsSome}
-use Rattle.kr_defs.specs.Log.{apply_all}
-use Rattle.kr_store.specs.Images.{last_kept}
+use Rattle.std.proofs.Common.{drop}
+use Rattle.kr_fold.proofs.ItemSteps.{Applying}
 use Rattle.kr_fold.proofs.log.apply_items.Given as goal
 
 abbrev pub invariant-loop-item : goal.invariant-loop-item
 invariant-loop-item g l =
     let images = g.S.Store.images in
-    let rest = drop l.item-index l.items in
-    record {
-      all : apply_all (images l.store).tip rest ≡ apply_all (images l.fn.store).tip l.items;
-      kept : (images l.store).kept ≡ (images l.fn.store).kept;
-      some : IsSome (last_kept (images l.store));
-      at : l.at ≡ l.place +ℤ pos l.item-index;
-    }
+    Applying (images l.fn.store) (images l.store) l.place l.next.place l.items (drop l.item-index l.items) l.item-index

@@ -9,9 +9,9 @@ pub loop-next-init : goal.loop-next-init
 loop-next-init g c =
     let new = marked_new c.new-store.result c.mark.new.self c.new-store.ensures c.in_ok-mark.ensures.ok in
     record {
-      alone = new.0;
+      stands = new.0;
       within = record { natural = omega (arith, ints); few = omega (arith, ints); bytes = omega arith };
-      reads = reads_nothing _ (record { tip = pos 0; at = 0 }) c.mark.new.self.tip refl refl new.1;
+      reads = reads_nothing _ (record { tip = pos 0; at = 0 }) c.mark.new.self refl refl new.1;
       faults = omega arith;
     }
 

@@ -1,15 +1,14 @@
 use Rattle.std.proofs.Common.{◌≤◌, ◌-◌}
-use Rattle.std.specs.Prelude.{pos}
 use Rattle.kr_fold.specs.Endings.{ReadsLog}
-use Rattle.kr_fold.specs.inner.NextBatches.{IsWithin, KeepsOne, log_at}
+use Rattle.kr_fold.specs.inner.NextBatches.{IsWithin, Stands, log_at}
 use Rattle.kr_fold.specs.SourceBytes.{longest}
 use Rattle.kr_fold.proofs.log.read_log.Given as goal
 
 abbrev pub invariant-loop-next : goal.invariant-loop-next
 invariant-loop-next g l = record {
-  alone : KeepsOne l.store (pos l.place.at);
+  stands : Stands l.store l.place.tip;
   within : IsWithin l.place;
-  reads : ReadsLog (g.S.Source.left l.initial.source) (g.S.Source.left l.source) (log_at l.place l.store.tip) l.place.at;
+  reads : ReadsLog (g.S.Source.left l.initial.source) (g.S.Source.left l.source) (log_at l.place l.store) l.place.at;
   faults : g.S.Source.faults l.initial.source ≤ g.S.Source.faults l.source;
 }
 

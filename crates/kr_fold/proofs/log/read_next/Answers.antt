@@ -20,8 +20,8 @@ returns-in-None-2-clause-next g c = λ left reads.
     let next = rw c.in-Ok-Some.field-0-is at c.in-Ok-Some.ensures.batch in
     let read = rw (c.as_slice.ensures.value, c.in-Some.is) at c.in_ok-batch.ensures in
     let refused = rw c.in-None-2.is at c.in_ok-tip.ensures.next in
-    reads_refused left _ _ (log_at c.args.place.now c.args.store.now.tip) _ reads c.in-Ok-Some.bytes.items next.took next.within next.sized
-    (one_refused (log_at c.args.place.now c.args.store.now.tip) c.in-Some.batch c.in-Ok-Some.bytes.items read.0 refused)
+    reads_refused left _ _ (log_at c.args.place.now c.args.store.now) _ reads c.in-Ok-Some.bytes.items next.took next.within next.sized
+    (one_refused (log_at c.args.place.now c.args.store.now) c.in-Some.batch c.in-Ok-Some.bytes.items read.0 refused)
 
 pub returns-clause-next : goal.returns-clause-next
 returns-clause-next g c = λ left reads.
@@ -30,7 +30,7 @@ returns-clause-next g c = λ left reads.
     let follows = rw c.in-Some-2.is at c.in_ok-tip.ensures.next in
     let whole = c.len.ensures ∙ (sym c.as_slice.ensures.len ∙ ap (λ (l : List ℕ). length l) c.as_slice.ensures.value) in
     let fits : FitsSigned w64 c.in-Some-2.tip = search rules in
-    reads_beyond left _ _ c.args.place.now c.beyond.result c.args.store.now.tip c.follow.new.store.tip c.in-Ok-Some.bytes.items c.in-Some.batch c.in-Some-2.tip c.len.result
+    reads_beyond left _ _ c.args.place.now c.beyond.result c.args.store.now c.follow.new.store c.in-Ok-Some.bytes.items c.in-Some.batch c.in-Some-2.tip c.len.result
     reads next.took read.0 follows (c.beyond.ensures.tip ∙ to_z-of_z w64 c.in-Some-2.tip fits) c.beyond.ensures.at whole
 
 pub returns-clause-within : goal.returns-clause-within
@@ -41,7 +41,7 @@ returns-clause-within g c =
     let whole = c.len.ensures ∙ (sym c.as_slice.ensures.len ∙ ap (λ (l : List ℕ). length l) c.as_slice.ensures.value) in
     let fits : FitsSigned w64 c.in-Some-2.tip = search rules in
     within_beyond c.args.place.now c.beyond.result c.in-Ok-Some.bytes.items (length c.in-Some.batch.items) c.in-Some-2.tip c.len.result
-    c.requires.within follows.1 read.1 next.sized next.within (c.beyond.ensures.tip ∙ to_z-of_z w64 c.in-Some-2.tip fits) c.beyond.ensures.at whole
+    c.requires.within follows.1 read.2 next.sized next.within (c.beyond.ensures.tip ∙ to_z-of_z w64 c.in-Some-2.tip fits) c.beyond.ensures.at whole
 
 pub returns-in_err-tip-clause-next : goal.returns-in_err-tip-clause-next
 returns-in_err-tip-clause-next g c = λ left reads.

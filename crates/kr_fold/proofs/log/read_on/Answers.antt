@@ -1,37 +1,19 @@
-use Rattle.std.proofs.Common.{ap, pos, rules, w64}
-use Rattle.std.specs.Prelude.{FitsSigned}
-use Rattle.std.proofs.lemmas.Int.{to_z-of_z}
 use Rattle.std.proofs.lemmas.Result.{err_from_is_err_and}
 use Rattle.kr_fold.specs.inner.NextBatches.{log_at}
-use Rattle.kr_fold.proofs.LogReading.{kept_alone, one_below, read_forgotten, some_kept}
+use Rattle.kr_fold.proofs.LogReading.{read_forgotten}
 use Rattle.kr_fold.proofs.log.read_on.Goals as goal
-
-pub read_next-requires-clause-kept : goal.read_next-requires-clause-kept
-read_next-requires-clause-kept g c = some_kept c.args.store.now _ c.requires.alone
-
-pub keep_alone-requires : goal.keep_alone-requires
-keep_alone-requires g c =
-    let next = rw c.in-Ok-Some.field-0-is at c.in-Ok-Some.ensures.within in
-    let fits : FitsSigned w64 (pos c.in-Ok-Some.next.at) = search rules in
-    rw c.epoch_of.ensures (rw (to_z-of_z w64 (pos c.in-Ok-Some.next.at) fits) (one_below c.args.store.now c.read_next.new.store c.args.place.now.at c.in-Ok-Some.next.at c.requires.alone c.read_next.ensures.kept next.1))
 
 pub returns-clause-next : goal.returns-clause-next
 returns-clause-next g c = λ left reads.
     let next = rw c.in-Ok-Some.field-0-is at c.in-Ok-Some.ensures.next in
-    rw (ap (λ images. images.tip) c.in_ok-keep_alone.ensures.kept) (next left reads)
-
-pub returns-clause-alone : goal.returns-clause-alone
-returns-clause-alone g c =
-    let fits : FitsSigned w64 (pos c.in-Ok-Some.next.at) = search rules in
-    let kept = rw c.epoch_of.ensures at c.in_ok-keep_alone.ensures.kept in
-    kept_alone c.keep_alone.new.store (pos c.in-Ok-Some.next.at) c.read_next.new.store.tip (rw (to_z-of_z w64 (pos c.in-Ok-Some.next.at) fits) at kept)
+    rw c.in_ok-keep_end.ensures.state (next left reads)
 
 pub returns-in-Ok-None-clause-next : goal.returns-in-Ok-None-clause-next
 returns-in-Ok-None-clause-next g c = rw c.in-Ok-None.field-0-is at c.in-Ok-None.ensures.next
 
-pub returns-in_err-keep_alone-clause-next : goal.returns-in_err-keep_alone-clause-next
-returns-in_err-keep_alone-clause-next g c = λ left reads.
+pub returns-in_err-keep_end-clause-next : goal.returns-in_err-keep_end-clause-next
+returns-in_err-keep_end-clause-next g c = λ left reads.
     let next = rw c.in-Ok-Some.field-0-is at c.in-Ok-Some.ensures.next in
     let within = (rw c.in-Ok-Some.field-0-is at c.in-Ok-Some.ensures.within).0 in
     let p = err_from_is_err_and c.from_residual.result c.from_residual.ensures.1 in
-    rw (p.1, p.2) (read_forgotten left _ (log_at c.in-Ok-Some.next c.read_next.new.store.tip) c.in-Ok-Some.next.at (next left reads) within.bytes)
+    rw (p.1, p.2) (read_forgotten left _ (log_at c.in-Ok-Some.next c.read_next.new.store) c.in-Ok-Some.next.at (next left reads) within.bytes)

@@ -19,14 +19,14 @@ pub returns-then-offset-end : goal.returns-then-offset-end
 returns-then-offset-end c =
     let from = stands_at c.args.nodes.now c.args.from c.index-nodes-from.result c.requires.from c.index-nodes-from.is in
     let to = stands_at c.args.nodes.now c.args.to c.index-nodes-to.result c.requires.to c.index-nodes-to.is in
-    let older : int_lt c.index-nodes-from.result.engine.committed c.index-nodes-to.result.engine.committed ≡ true = search rules in
-    let is : faults.OlderImage (to_z w64 (of_z w64 c.committed-offset.result)) (to_z w64 (of_z w64 c.committed-end.result)) ≡ faults.OlderImage c.index-nodes-from.result.engine.committed c.index-nodes-to.result.engine.committed = search rules in
+    let older : int_lt c.index-nodes-from.result.engine.closed c.index-nodes-to.result.engine.committed ≡ true = search rules in
+    let is : faults.OlderImage (to_z w64 (of_z w64 c.closed-offset.result)) (to_z w64 (of_z w64 c.committed-end.result)) ≡ faults.OlderImage c.index-nodes-from.result.engine.closed c.index-nodes-to.result.engine.committed = search rules in
     inr (record { source = c.index-nodes-from.result; target = c.index-nodes-to.result; source_is = from; target_is = to; idle = c.in_ok-check_standby.ensures; older = older; is = is })
 
 pub returns : goal.returns
 returns c =
     let from = stands_at c.args.nodes.now c.args.from c.index-nodes-from.result c.requires.from c.index-nodes-from.is in
     let to = stands_at c.args.nodes.now c.args.to c.index-nodes-to.result c.requires.to c.index-nodes-to.is in
-    let later : int_lt c.index-nodes-from.result.engine.committed c.index-nodes-to.result.engine.committed ≡ false = search rules in
-    let end : to_z w64 (of_z w64 c.committed-offset.result) ≡ c.index-nodes-from.result.engine.committed = search rules in
+    let later : int_lt c.index-nodes-from.result.engine.closed c.index-nodes-to.result.engine.committed ≡ false = search rules in
+    let end : to_z w64 (of_z w64 c.closed-offset.result) ≡ c.index-nodes-from.result.engine.closed = search rules in
     record { source = c.index-nodes-from.result; target = c.index-nodes-to.result; source_is = from; target_is = to; idle = c.in_ok-check_standby.ensures; later = later; end_is = end; fed_is = refl }

@@ -15,6 +15,8 @@ loop-item-preserved g c =
         fits = omega (arith, c.in_ok-read_item.ensures.expected, c.loop-item.invariant.room.fits);
       };
       kept = c.in_ok-read_item.ensures.kept ∙ c.loop-item.invariant.kept;
+      begun = c.in_ok-read_item.ensures.begun ∙ c.loop-item.invariant.begun;
+      kept_begun = c.in_ok-read_item.ensures.kept_begun ∙ c.loop-item.invariant.kept_begun;
       expected = c.in_ok-read_item.ensures.expected ∙ c.loop-item.invariant.expected;
       count = omega (arith, c.in_ok-read_item.ensures.count, c.loop-item.invariant.count);
       read = items_next _ _ c.as_slice-list.result.now c.loop-item.item-index c.item-item.result c.loop-item-test.true c.item-item.is c.in_ok-read_item.ensures.read ∙ c.loop-item.invariant.read;

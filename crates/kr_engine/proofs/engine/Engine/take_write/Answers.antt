@@ -1,5 +1,6 @@
 use Rattle.std.proofs.Common.{length, refl, ap}
-use Rattle.kr_engine.proofs.RequestDecisions.{append_breaks, decided_there, image_there, stopping_below, write_few, write_fits}
+use Rattle.kr_image.proofs.StoreStates.{on_ok_then}
+use Rattle.kr_engine.proofs.RequestDecisions.{append_breaks, decided_there, image_there, stopping_below, takes_write, write_few, write_fits}
 use Rattle.kr_model.specs.Engine.{Core}
 use Rattle.kr_engine.proofs.Undoing.{same_breaks, whatever}
 use Rattle.kr_engine.proofs.engine.Engine.take_write.Goals as goal
@@ -29,3 +30,11 @@ hold_reply-requires-clause-among g c =
     stopping_below c.args.self.now c.decide.new.self c.append.new.self c.args.call.now c.in_ok-records.field-0 c.requires.ready c.look_at_images.ensures c.in_ok-records.ensures.decided c.in_ok-append.ensures.appended
     c.decided_at-decided.result c.past_basis-basis.result
     (decided_there c.decided_at-decided.result c.self-2.inside.tip c.decide.new.self.tip (length c.in_ok-records.field-0.records) c.past_basis-basis.result c.decided_at-decided.ensures (ap (λ (e : Core). e.tip) c.self-2.view_is))
+
+pub returns-clause-taken : goal.returns-clause-taken
+returns-clause-taken g c =
+    on_ok_then _ _ c.hold_reply.result
+    (takes_write c.args.self.now c.decide.new.self c.append.new.self c.hold_reply.new.self c.args.client.now c.args.call.now c.in_ok-records.field-0 c.in_ok-refusal.refusal c.requires.ready c.look_at_images.ensures c.in_ok-records.ensures.decided
+    c.in_ok-append.ensures.appended c.decided_at-decided.result c.past_basis-basis.result c.in_ok-refusal.ensures c.past_basis-basis.ensures
+    (decided_there c.decided_at-decided.result c.self-2.inside.tip c.decide.new.self.tip (length c.in_ok-records.field-0.records) c.past_basis-basis.result c.decided_at-decided.ensures (ap (λ (e : Core). e.tip) c.self-2.view_is)))
+    c.hold_reply.ensures.held

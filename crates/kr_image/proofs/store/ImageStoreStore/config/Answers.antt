@@ -2,4 +2,4 @@ use Rattle.kr_image.proofs.Places.{configs_seen}
 use Rattle.kr_image.proofs.store.ImageStoreStore.config.Goals as goal
 
 pub returns : goal.returns
-returns c = rw (configs_seen c.self.inside.timelines c.self.inside.kept.items c.self.invariant c.args.self.now c.self.view_is c.args.at) at c.find_at.ensures
+returns c = rw (configs_seen c.self.inside.timelines c.self.inside.kept.items c.self.inside.begun c.self.invariant c.args.self.now c.self.view_is c.args.at) at c.find_at.ensures
