@@ -2,3 +2,6 @@ mod Examples
 pub mod FoundLeaderships
 pub mod LinkSteps
 pub mod StepLaws
+pub mod UnderWay
+pub mod LateFrames
+pub mod PartsStand
