@@ -16,25 +16,25 @@ use Rattle.law_quorum.proofs.WholeHistories.{grows_from}
 use Rattle.law_quorum.proofs.FedNodes.{IsCluster, first_cluster, moves_on}
 use Rattle.law_link.specs.Links.{ArePossible, Call, Has, Held, IsPossible, Keep, Link, LinkStep, MayStray, MayWrite, Web, append_of, handed, idle, set_link, stepped}
 use Rattle.law_link.specs.Links.{Execute, Clear, Make, Win, Read, Take, Begin, Write, Ask, Settle, Give, GiveUp, LetGo, Renew, Stray, Hear, Pass}
-use Rattle.law_link.specs.Frames.{AllMayHappen, Act, Arrive, Commit, Emit, Feed, Frame, Lead, Load, Lost, MayAct, MayHappen, MaySnapshot, Network, NetworkStep, Snapshot, all_seen, all_taken, at_once, daemons_of, emitted, is_led, move_of, network_after, no_network, seen, set_at, taken, with_frame}
+use Rattle.law_link.specs.Frames.{AllMayHappen, Act, Arrive, Commit, Emit, Feed, Frame, Lead, Load, Lost, MayAct, MayHappen, MaySnapshot, Network, NetworkStep, Snapshot, all_link_steps, all_daemon_moves, at_once, daemons_of, emitted, leads_epoch, move_of, network_after, no_network, as_seen, set_at, daemon_moves, with_frame}
 use Rattle.law_link.specs.LinkLaws.{LateFramesAreRight}
 use Rattle.law_link.proofs.LinkSteps.{IsWeb, all_map, has_all, held_is, runs_at, waits_at}
 use Rattle.law_link.proofs.StepLaws.{allowed_both, first_web, step_right}
 use Rattle.law_link.proofs.UnderWay.{IsUnderWay, MayArrive, Once, after_frame, arrived, epoch_begun, epochs_begun, epochs_led, none_leads, same_epoch, sent_lead, sent_on, stray_reaches, tip_stays, way_later, write_reaches, written}
 
 -- what is so at a node, and at each other one
-at_node : (k : ℕ) (P : ℕ → Bool → Type 0) → P k true → ((j : ℕ) → P j false) → (j : ℕ) → P j (nat_eq k j)
+pub at_node : (k : ℕ) (P : ℕ → Bool → Type 0) → P k true → ((j : ℕ) → P j false) → (j : ℕ) → P j (nat_eq k j)
 at_node k P here all j = by (nat_eq k j) refl
   where
     by : (t : Bool) → nat_eq k j ≡ t → P j t
     by true e = subst (λ (i : ℕ). P i true) (eqb-true k j e) here
     by false e = all j
 
-led_true : (leads : Option ℕ) (epoch : ℕ) → is_led leads epoch ≡ true → leads ≡ Some epoch
+led_true : (leads : Option ℕ) (epoch : ℕ) → leads_epoch leads epoch ≡ true → leads ≡ Some epoch
 led_true None epoch e = absurd cc
 led_true (Some led) epoch e = ap (λ (x : ℕ). Some x) (eqb-true led epoch e)
 
-led_false : (leads : Option ℕ) (epoch : ℕ) → is_led leads epoch ≡ false → leads ≡ Some epoch → ⊥
+led_false : (leads : Option ℕ) (epoch : ℕ) → leads_epoch leads epoch ≡ false → leads ≡ Some epoch → ⊥
 led_false None epoch e leads = none_leads None epoch refl leads
 led_false (Some led) epoch e leads =
     let same : led ≡ epoch = same_epoch led epoch leads in
@@ -250,7 +250,7 @@ module _ (make : List Batch → List ℕ) where
       emit_allowed : AreAllowed make (daemons_of n) (moves.Write k b ∷ [])
       emit_allowed = (leads_some (n.daemons k).leads b.epoch m.leads, tt)
 
-      emit_seen : (t : Bool) → is_led (view k).leads b.epoch ≡ t → IsPossible make n.web (emitted t k b)
+      emit_seen : (t : Bool) → leads_epoch (view k).leads b.epoch ≡ t → IsPossible make n.web (emitted t k b)
           × IsNetwork (record { web = stepped n.web (emitted t k b); daemons = set_node k (written (n.daemons k) b) n.daemons; frames = n.frames; images = n.images })
       emit_seen true is =
           let leads = led_true (view k).leads b.epoch is in
@@ -319,11 +319,11 @@ module _ (make : List Batch → List ℕ) where
   -- ---- all
 
   pub network_right : (n : Network) (step : NetworkStep) → IsNetwork n → MayHappen make n step
-      → AreAllowed make (daemons_of n) (taken n step) × ArePossible make n.web (seen n step) × IsNetwork (network_after n step)
+      → AreAllowed make (daemons_of n) (daemon_moves n step) × ArePossible make n.web (as_seen n step) × IsNetwork (network_after n step)
   network_right n (Act step) h a = (act_allowed n h step a, (possible n step h a, tt), act n h step a)
   network_right n (Arrive k frame rest) h a = let r = arrive_right n h k frame rest a in (r.0, tt, r.1)
   network_right n (Emit k b) h a =
-      let r = emit_seen n h k b a (is_led (n.web.cluster.nodes k).leads b.epoch) refl in (emit_allowed n h k b a, (r.0, tt), r.1)
+      let r = emit_seen n h k b a (leads_epoch (n.web.cluster.nodes k).leads b.epoch) refl in (emit_allowed n h k b a, (r.0, tt), r.1)
   network_right n (Snapshot k image) h a = (tt, tt, snapshot_right n h k image a)
 
   -- the daemons' store is that of the links
@@ -339,10 +339,10 @@ module _ (make : List Batch → List ℕ) where
   same_emit n true k b = refl
   same_emit n false k b = refl
 
-  same_point : (n : Network) (step : NetworkStep) → (fold moved (daemons_of n) (taken n step)).point ≡ (fold stepped n.web (seen n step)).cluster.point
+  same_point : (n : Network) (step : NetworkStep) → (fold moved (daemons_of n) (daemon_moves n step)).point ≡ (fold stepped n.web (as_seen n step)).cluster.point
   same_point n (Act step) = same_act n step
   same_point n (Arrive k frame rest) = same_arrive n k frame
-  same_point n (Emit k b) = same_emit n (is_led (n.web.cluster.nodes k).leads b.epoch) k b
+  same_point n (Emit k b) = same_emit n (leads_epoch (n.web.cluster.nodes k).leads b.epoch) k b
   same_point n (Snapshot k image) = refl
 
   possible_both : (w : Web) (some more : List LinkStep) → ArePossible make w some → ArePossible make (fold stepped w some) more → ArePossible make w (some ++ more)
@@ -350,20 +350,20 @@ module _ (make : List Batch → List ℕ) where
   possible_both w (step ∷ some) more (here, a) b = (here, possible_both (stepped w step) some more a b)
 
   all_right : (n : Network) (steps : List NetworkStep) → IsNetwork n → AllMayHappen make n steps
-      → AreAllowed make (daemons_of n) (all_taken n steps) × ArePossible make n.web (all_seen n steps)
+      → AreAllowed make (daemons_of n) (all_daemon_moves n steps) × ArePossible make n.web (all_link_steps n steps)
   all_right n [] h a = (tt, tt)
   all_right n (step ∷ steps) h (here, a) =
       let r = network_right n step h here in
       let then = network_after n step in
       let rest = all_right then steps r.2 a in
-      let daemons : AreAllowed make (fold moved (daemons_of n) (taken n step)) (all_taken then steps) =
-      subst (λ (q : Point). AreAllowed make (record { point = q; nodes = then.daemons }) (all_taken then steps)) (sym (same_point n step)) rest.0 in
+      let daemons : AreAllowed make (fold moved (daemons_of n) (daemon_moves n step)) (all_daemon_moves then steps) =
+      subst (λ (q : Point). AreAllowed make (record { point = q; nodes = then.daemons }) (all_daemon_moves then steps)) (sym (same_point n step)) rest.0 in
       (
-        allowed_both make (daemons_of n) (taken n step) (all_taken then steps) r.0 daemons,
-        possible_both n.web (seen n step) (all_seen then steps) r.1 rest.1,
+        allowed_both make (daemons_of n) (daemon_moves n step) (all_daemon_moves then steps) r.0 daemons,
+        possible_both n.web (as_seen n step) (all_link_steps then steps) r.1 rest.1,
       )
 
-  first_network : IsNetwork no_network
+  pub first_network : IsNetwork no_network
   first_network = record {
     web = first_web make;
     daemons = (first_cluster make).nodes;

@@ -1,4 +1,5 @@
 mod Examples
+mod LateExamples
 pub mod FoundLeaderships
 pub mod LinkSteps
 pub mod StepLaws

@@ -13,10 +13,10 @@ use Rattle.law_quorum.proofs.KeptLog.{both, taken}
 use Rattle.law_quorum.proofs.LeadershipOrder.{IsOver, over_stays}
 use Rattle.law_quorum.proofs.Places.{all_after}
 use Rattle.law_quorum.proofs.WholeHistories.{fold_append}
-use Rattle.law_link.specs.Parts.{IsKnown, IsLater, IsPartOf, Log, OfBatch, OfImage, PartChange, PartStore, PartsMakeTheWhole, PartsStand, Put, Whole, behind_parts, guards, is_same, no_store, part, parts_after, place_of, put_part, read_parts, store, store_after}
+use Rattle.law_link.specs.Parts.{GuardWasRead, DropsLater, IsPartOf, Log, OfBatch, OfImage, PartChange, PartStore, PartsMakeTheWhole, PartsStand, Put, Whole, behind_parts, guards, is_same_whole, no_store, part, parts_after, place_of_whole, put_part, read_parts, store, store_after}
 use Rattle.law_link.proofs.LinkSteps.{all_before}
 
-same_whole : (one other : Whole) → is_same one other ≡ true → one ≡ other
+same_whole : (one other : Whole) → is_same_whole one other ≡ true → one ≡ other
 same_whole (OfBatch place epoch) (OfBatch other number) e =
     let t = both (nat_eq place other) (nat_eq epoch number) e in
     ap (λ (x : ℕ). OfBatch x epoch) (eqb-true place other t.0) ∙ ap (λ (x : ℕ). OfBatch other x) (eqb-true epoch number t.1)
@@ -27,7 +27,7 @@ same_whole (OfImage offset) (OfBatch other number) e = absurd cc
 itself : (x : ℕ) → nat_eq x x ≡ true
 itself x = grind (arith, nat_tests)
 
-is_itself : (whole : Whole) → is_same whole whole ≡ true
+is_itself : (whole : Whole) → is_same_whole whole whole ≡ true
 is_itself (OfBatch place epoch) = ap (λ (t : Bool). t && nat_eq epoch epoch) (itself place) ∙ itself epoch
 is_itself (OfImage offset) = itself offset
 
@@ -36,9 +36,9 @@ module _ (size : ℕ) (bytes_of : Whole → List ℕ) (whole : Whole) (at : ℕ)
   mine = part size at (bytes_of whole)
 
   -- a part that is put is the one, or another one
-  put_is : (other : Whole) (number : ℕ) (bytes : List ℕ) → bytes ≡ part size number (bytes_of other) → is_same other whole && nat_eq number at ≡ true → Some bytes ≡ Some mine
+  put_is : (other : Whole) (number : ℕ) (bytes : List ℕ) → bytes ≡ part size number (bytes_of other) → is_same_whole other whole && nat_eq number at ≡ true → Some bytes ≡ Some mine
   put_is other number bytes is e =
-      let t = both (is_same other whole) (nat_eq number at) e in
+      let t = both (is_same_whole other whole) (nat_eq number at) e in
       ap (λ (x : List ℕ). Some x)
       (is ∙ (ap (λ (w : Whole). part size number (bytes_of w)) (same_whole other whole t.0) ∙ ap (λ (x : ℕ). part size x (bytes_of whole)) (eqb-true number at t.1)))
 
@@ -50,7 +50,7 @@ module _ (size : ℕ) (bytes_of : Whole → List ℕ) (whole : Whole) (at : ℕ)
   right_log : (s : PartStore) (change : Change) (t : Bool) → IsRight s
       → (cond t (parts_after change s.parts) s.parts whole at ≡ None) ⊎ (cond t (parts_after change s.parts) s.parts whole at ≡ Some mine)
   right_log s change false r = r
-  right_log s (Drop before image) true r = elim (nat_lt (place_of whole) image.offset) as (λ t. (cond t None (s.parts whole at) ≡ None) ⊎ (cond t None (s.parts whole at) ≡ Some mine)) [
+  right_log s (Drop before image) true r = elim (nat_lt (place_of_whole whole) image.offset) as (λ t. (cond t None (s.parts whole at) ≡ None) ⊎ (cond t None (s.parts whole at) ≡ Some mine)) [
     | true ↦ inl refl
     | false ↦ r
   ]
@@ -62,9 +62,9 @@ module _ (size : ℕ) (bytes_of : Whole → List ℕ) (whole : Whole) (at : ℕ)
   right_put : (s : PartStore) (guard : ℕ) (other : Whole) (number : ℕ) (bytes : List ℕ) (t : Bool) → bytes ≡ part size number (bytes_of other) → IsRight s
       → IsRight (cond t (record { point = point_after s.point Other; parts = put_part other number bytes s.parts }) s)
   right_put s guard other number bytes false is r = r
-  right_put s guard other number bytes true is r = by (is_same other whole && nat_eq number at) refl
+  right_put s guard other number bytes true is r = by (is_same_whole other whole && nat_eq number at) refl
     where
-      by : (t : Bool) → is_same other whole && nat_eq number at ≡ t → (cond t (Some bytes) (s.parts whole at) ≡ None) ⊎ (cond t (Some bytes) (s.parts whole at) ≡ Some mine)
+      by : (t : Bool) → is_same_whole other whole && nat_eq number at ≡ t → (cond t (Some bytes) (s.parts whole at) ≡ None) ⊎ (cond t (Some bytes) (s.parts whole at) ≡ Some mine)
       by true e = inr (put_is other number bytes is e)
       by false e = r
 
@@ -77,19 +77,19 @@ module _ (size : ℕ) (bytes_of : Whole → List ℕ) (whole : Whole) (at : ℕ)
   -- ---- a part that was put stands until an image takes its place
 
   abbrev Stands : PartStore → Type 0
-  Stands s = (s.parts whole at ≡ Some mine) ⊎ (place_of whole < offset_of_image s.point.keys.image)
+  Stands s = (s.parts whole at ≡ Some mine) ⊎ (place_of_whole whole < offset_of_image s.point.keys.image)
 
-  stands_log : (s : PartStore) (change : Change) (t : Bool) → compares s.point.keys change ≡ t → IsLater (Log change) → Stands s
+  stands_log : (s : PartStore) (change : Change) (t : Bool) → compares s.point.keys change ≡ t → DropsLater (Log change) → Stands s
       → Stands (record { point = taken s.point change t; parts = cond t (parts_after change s.parts) s.parts })
   stands_log s change false is later h = h
-  stands_log s (Drop before image) true is later h = by (nat_lt (place_of whole) image.offset) refl
+  stands_log s (Drop before image) true is later h = by (nat_lt (place_of_whole whole) image.offset) refl
     where
-      by : (t : Bool) → nat_lt (place_of whole) image.offset ≡ t → (cond t None (s.parts whole at) ≡ Some mine) ⊎ (place_of whole < image.offset)
+      by : (t : Bool) → nat_lt (place_of_whole whole) image.offset ≡ t → (cond t None (s.parts whole at) ≡ Some mine) ⊎ (place_of_whole whole < image.offset)
       by true e = inr (grind (arith, nat_tests))
       by false e = elim h [
         | inl stands ↦ inl stands
         | inr low ↦ inr (let same : offset_of_image s.point.keys.image ≡ before = eqb-true (offset_of_image s.point.keys.image) before is in
-            let below : place_of whole < offset_of_image s.point.keys.image = low in omega arith)
+            let below : place_of_whole whole < offset_of_image s.point.keys.image = low in omega arith)
       ]
   stands_log s (Campaign node token epoch) true is later h = h
   stands_log s (Append made batches) true is later h = h
@@ -99,13 +99,13 @@ module _ (size : ℕ) (bytes_of : Whole → List ℕ) (whole : Whole) (at : ℕ)
   stands_put : (s : PartStore) (other : Whole) (number : ℕ) (bytes : List ℕ) (t : Bool) → bytes ≡ part size number (bytes_of other) → Stands s
       → Stands (cond t (record { point = point_after s.point Other; parts = put_part other number bytes s.parts }) s)
   stands_put s other number bytes false is h = h
-  stands_put s other number bytes true is h = by (is_same other whole && nat_eq number at) refl
+  stands_put s other number bytes true is h = by (is_same_whole other whole && nat_eq number at) refl
     where
-      by : (t : Bool) → is_same other whole && nat_eq number at ≡ t → (cond t (Some bytes) (s.parts whole at) ≡ Some mine) ⊎ (place_of whole < offset_of_image s.point.keys.image)
+      by : (t : Bool) → is_same_whole other whole && nat_eq number at ≡ t → (cond t (Some bytes) (s.parts whole at) ≡ Some mine) ⊎ (place_of_whole whole < offset_of_image s.point.keys.image)
       by true e = inl (put_is other number bytes is e)
       by false e = h
 
-  stands_from : (s : PartStore) (history : List PartChange) → Stands s → AllByRecursion (IsPartOf size bytes_of) history → AllByRecursion IsLater history
+  stands_from : (s : PartStore) (history : List PartChange) → Stands s → AllByRecursion (IsPartOf size bytes_of) history → AllByRecursion DropsLater history
       → Stands (fold store_after s history)
   stands_from s [] h a l = h
   stands_from s (Log change ∷ history) h (here, a) (later, l) =
@@ -117,10 +117,10 @@ module _ (size : ℕ) (bytes_of : Whole → List ℕ) (whole : Whole) (at : ℕ)
 
 module _ (guard : ℕ) where
   pub record Never (k : Whole) (p : Point) : Type 0 where
-    pub known : IsKnown p.keys guard k
+    pub known : GuardWasRead p.keys guard k
     pub fails : guards p.keys guard k ≡ false
 
-  never_image : (offset : ℕ) (p : Point) (change : Change) (t : Bool) → compares p.keys change ≡ t → IsLater (Log change) → Never (OfImage offset) p → Never (OfImage offset) (taken p change t)
+  never_image : (offset : ℕ) (p : Point) (change : Change) (t : Bool) → compares p.keys change ≡ t → DropsLater (Log change) → Never (OfImage offset) p → Never (OfImage offset) (taken p change t)
   never_image offset p change false is later n = record { known = n.known; fails = n.fails }
   never_image offset p (Drop before image) true is later n =
       let known : guard ≤ offset_of_image p.keys.image = n.known in
@@ -132,7 +132,7 @@ module _ (guard : ℕ) where
   never_image offset p Expire true is later n = record { known = n.known; fails = n.fails }
   never_image offset p Other true is later n = record { known = n.known; fails = n.fails }
 
-  never_again : (whole : Whole) (p : Point) (change : Change) → IsLater (Log change) → Never whole p → Never whole (point_after p change)
+  never_again : (whole : Whole) (p : Point) (change : Change) → DropsLater (Log change) → Never whole p → Never whole (point_after p change)
   never_again (OfBatch place epoch) p change later n =
       let o = over_stays guard p change (record { past = n.known; over = n.fails }) in record { known = o.past; fails = o.over }
   never_again (OfImage offset) p change later n = never_image offset p change (compares p.keys change) refl later n
@@ -142,7 +142,7 @@ module _ (guard : ℕ) where
   never_put whole other s number bytes false n = n
   never_put whole other s number bytes true n = never_again whole s.point Other tt n
 
-  never_from : (whole : Whole) (s : PartStore) (history : List PartChange) → Never whole s.point → AllByRecursion IsLater history → Never whole (fold store_after s history).point
+  never_from : (whole : Whole) (s : PartStore) (history : List PartChange) → Never whole s.point → AllByRecursion DropsLater history → Never whole (fold store_after s history).point
   never_from whole s [] n l = n
   never_from whole s (Log change ∷ history) n (later, l) = never_from whole (store_after s (Log change)) history (never_again whole s.point change later n) l
   never_from whole s (Put other_guard other number bytes ∷ history) n (later, l) =
@@ -150,7 +150,7 @@ module _ (guard : ℕ) where
 
 pub parts_stand : PartsStand
 parts_stand size bytes_of before between later guard whole at bytes a l known holds =
-    subst (λ (s : PartStore). (s.parts whole at ≡ Some (part size at (bytes_of whole))) ⊎ (place_of whole < offset_of_image s.point.keys.image))
+    subst (λ (s : PartStore). (s.parts whole at ≡ Some (part size at (bytes_of whole))) ⊎ (place_of_whole whole < offset_of_image s.point.keys.image))
     (sym (fold_append store_after no_store before (put ∷ (between ++ later)))) (by (guards first.point.keys guard whole) refl)
   where
     abbrev put : PartChange
@@ -162,8 +162,8 @@ parts_stand size bytes_of before between later guard whole at bytes a l known ho
     behind_put : AllByRecursion (IsPartOf size bytes_of) (put ∷ (between ++ later))
     behind_put = all_after (IsPartOf size bytes_of) before (put ∷ (between ++ later)) a
 
-    later_put : AllByRecursion IsLater (put ∷ (between ++ later))
-    later_put = all_after IsLater before (put ∷ (between ++ later)) l
+    later_put : AllByRecursion DropsLater (put ∷ (between ++ later))
+    later_put = all_after DropsLater before (put ∷ (between ++ later)) l
 
     abbrev with_part : PartStore
     with_part = record { point = point_after first.point Other; parts = put_part whole at bytes first.parts }
@@ -174,7 +174,7 @@ parts_stand size bytes_of before between later guard whole at bytes a l known ho
         ∙ ap (λ (x : List ℕ). Some x) behind_put.0))
         behind_put.1 later_put.1
     by false is =
-        let n = never_from guard whole first between (record { known = known; fails = is }) (all_before IsLater between later later_put.1) in
+        let n = never_from guard whole first between (record { known = known; fails = is }) (all_before DropsLater between later later_put.1) in
         let there : store (before ++ put ∷ between) ≡ fold store_after (cond false with_part first) between =
         fold_append store_after no_store before (put ∷ between) ∙ ap (λ (t : Bool). fold store_after (cond t with_part first) between) is in
         let fails : guards (store (before ++ put ∷ between)).point.keys guard whole ≡ false = ap (λ (s : PartStore). guards s.point.keys guard whole) there ∙ n.fails in

@@ -1,5 +1,4 @@
--- Frames that are under way. A daemon takes what its link handed in later, one frame after the other, and what it writes and makes
--- reaches its link later. A link goes by what it handed in.
+-- Frames under way: a daemon takes what was handed in later, and what it gives reaches its link later.
 use Rattle.std.specs.Prelude.{◌≡◌, ◌<◌, ℕ, Bool, false, List, [], ◌∷◌, ◌++◌, cond, Option, None, Some, nat_eq, fold, flat_map}
 use Rattle.law_quorum.specs.Batches.{Batch, StoredImage, behind}
 use Rattle.law_quorum.specs.Laws.{IsImageOf}
@@ -78,33 +77,33 @@ at_once (moves.Renew k) = moves.Renew k ∷ []
 at_once other = []
 
 -- what happens to the store and the daemons
-abbrev pub taken : Network → NetworkStep → List Move
-taken n (Act step) = flat_map at_once (handed n.web step)
-taken n (Arrive k frame rest) = move_of k frame ∷ []
-taken n (Emit k b) = moves.Write k b ∷ []
-taken n (Snapshot k image) = []
+abbrev pub daemon_moves : Network → NetworkStep → List Move
+daemon_moves n (Act step) = flat_map at_once (handed n.web step)
+daemon_moves n (Arrive k frame rest) = move_of k frame ∷ []
+daemon_moves n (Emit k b) = moves.Write k b ∷ []
+daemon_moves n (Snapshot k image) = []
 
-abbrev pub is_led : Option ℕ → ℕ → Bool
-is_led None epoch = false
-is_led (Some led) epoch = nat_eq led epoch
+abbrev pub leads_epoch : Option ℕ → ℕ → Bool
+leads_epoch None epoch = false
+leads_epoch (Some led) epoch = nat_eq led epoch
 
--- what it is for the links: a daemon may write a batch though its leadership was taken from it, for all that its link knows
+-- what it is for the links: a daemon may write a batch though its leadership was daemon_moves from it, for all that its link knows
 abbrev pub emitted : Bool → ℕ → Batch → LinkStep
 emitted leads k b = cond leads (Write k b) (Stray k b)
 
-abbrev pub seen : Network → NetworkStep → List LinkStep
-seen n (Act step) = step ∷ []
-seen n (Arrive k frame rest) = []
-seen n (Emit k b) = emitted (is_led (n.web.cluster.nodes k).leads b.epoch) k b ∷ []
-seen n (Snapshot k image) = []
+abbrev pub as_seen : Network → NetworkStep → List LinkStep
+as_seen n (Act step) = step ∷ []
+as_seen n (Arrive k frame rest) = []
+as_seen n (Emit k b) = emitted (leads_epoch (n.web.cluster.nodes k).leads b.epoch) k b ∷ []
+as_seen n (Snapshot k image) = []
 
 abbrev pub daemons_of : Network → Cluster
 daemons_of n = record { point = n.web.cluster.point; nodes = n.daemons }
 
 abbrev pub network_after : Network → NetworkStep → Network
 network_after n step = record {
-  web = fold stepped n.web (seen n step);
-  daemons = (fold moved (daemons_of n) (taken n step)).nodes;
+  web = fold stepped n.web (as_seen n step);
+  daemons = (fold moved (daemons_of n) (daemon_moves n step)).nodes;
   frames = frames_after n step;
   images = images_after n step;
 }
@@ -135,13 +134,13 @@ abbrev pub AllMayHappen : (List Batch → List ℕ) → Network → List Network
 AllMayHappen make n [] = Unit {0}
 AllMayHappen make n (step ∷ steps) = MayHappen make n step × AllMayHappen make (network_after n step) steps
 
-abbrev pub all_taken : Network → List NetworkStep → List Move
-all_taken n [] = []
-all_taken n (step ∷ steps) = taken n step ++ all_taken (network_after n step) steps
+abbrev pub all_daemon_moves : Network → List NetworkStep → List Move
+all_daemon_moves n [] = []
+all_daemon_moves n (step ∷ steps) = daemon_moves n step ++ all_daemon_moves (network_after n step) steps
 
-abbrev pub all_seen : Network → List NetworkStep → List LinkStep
-all_seen n [] = []
-all_seen n (step ∷ steps) = seen n step ++ all_seen (network_after n step) steps
+abbrev pub all_link_steps : Network → List NetworkStep → List LinkStep
+all_link_steps n [] = []
+all_link_steps n (step ∷ steps) = as_seen n step ++ all_link_steps (network_after n step) steps
 
 abbrev pub no_network : Network
 no_network = record { web = no_web; daemons = λ k. new_node; frames = λ k. []; images = λ k. [] }

@@ -1,5 +1,4 @@
--- Values that are more than a transaction takes stand in parts, each under a key of its own. A part is put by a transaction of its own,
--- before the one that makes a key refer to the whole, and under the same comparison; who reads takes each part as it stands then.
+-- Values in parts, each part put by a transaction of its own before the one that refers to the whole, and under the same comparison.
 use Rattle.std.specs.Prelude.{◌≡◌, ◌<◌, ◌≤◌, ◌⊎◌, ℕ, zero, suc, Bool, true, false, cond, ◌&&◌, List, [], ◌∷◌, ◌++◌, length, take, drop, Option, None, Some, nat_eq, nat_lt, fold}
 use Rattle.std.specs.List.{AllByRecursion}
 use Rattle.std.specs.Option.{unwrap_or}
@@ -26,14 +25,14 @@ pub data PartChange : Type 0 where
   -- stands is of a place still
   Put : ℕ → Whole → ℕ → List ℕ → PartChange
 
-abbrev pub place_of : Whole → ℕ
-place_of (OfBatch place epoch) = place
-place_of (OfImage offset) = offset
+abbrev pub place_of_whole : Whole → ℕ
+place_of_whole (OfBatch place epoch) = place
+place_of_whole (OfImage offset) = offset
 
-abbrev pub is_same : Whole → Whole → Bool
-is_same (OfBatch place epoch) (OfBatch other number) = nat_eq place other && nat_eq epoch number
-is_same (OfImage offset) (OfImage other) = nat_eq offset other
-is_same one other = false
+abbrev pub is_same_whole : Whole → Whole → Bool
+is_same_whole (OfBatch place epoch) (OfBatch other number) = nat_eq place other && nat_eq epoch number
+is_same_whole (OfImage offset) (OfImage other) = nat_eq offset other
+is_same_whole one other = false
 
 -- what the transaction compares, as the one does that refers to the whole
 abbrev pub guards : Keys → ℕ → Whole → Bool
@@ -41,11 +40,11 @@ guards k guard (OfBatch place epoch) = leads_by k.leader guard
 guards k guard (OfImage offset) = nat_eq (offset_of_image k.image) guard
 
 abbrev pub put_part : Whole → ℕ → List ℕ → (Whole → ℕ → Option (List ℕ)) → Whole → ℕ → Option (List ℕ)
-put_part whole at bytes parts other number = cond (is_same whole other && nat_eq at number) (Some bytes) (parts other number)
+put_part whole at bytes parts other number = cond (is_same_whole whole other && nat_eq at number) (Some bytes) (parts other number)
 
 -- an image drops the parts of the batches for which it stands, and of earlier images
 abbrev pub parts_after : Change → (Whole → ℕ → Option (List ℕ)) → Whole → ℕ → Option (List ℕ)
-parts_after (Drop before image) parts whole at = cond (nat_lt (place_of whole) image.offset) None (parts whole at)
+parts_after (Drop before image) parts whole at = cond (nat_lt (place_of_whole whole) image.offset) None (parts whole at)
 parts_after other parts whole at = parts whole at
 
 abbrev pub store_after : PartStore → PartChange → PartStore
@@ -74,9 +73,9 @@ IsPartOf size bytes_of (Log change) = Unit {0}
 IsPartOf size bytes_of (Put guard whole at bytes) = bytes ≡ part size at (bytes_of whole)
 
 -- and of who drops batches: the image is of a later place than the one that it takes the place of
-abbrev pub IsLater : PartChange → Type 0
-IsLater (Log (Drop before image)) = before < image.offset
-IsLater other = Unit {0}
+abbrev pub DropsLater : PartChange → Type 0
+DropsLater (Log (Drop before image)) = before < image.offset
+DropsLater other = Unit {0}
 
 -- ---- reads
 
@@ -94,15 +93,15 @@ PartsMakeTheWhole = (size : ℕ) (bytes_of : Whole → List ℕ) (whole : Whole)
 -- ---- what is referred to
 
 -- it was read that the key was made at this revision, or that the image is of this place
-abbrev pub IsKnown : Keys → ℕ → Whole → Type 0
-IsKnown k guard (OfBatch place epoch) = guard ≤ k.revision
-IsKnown k guard (OfImage offset) = guard ≤ offset_of_image k.image
+abbrev pub GuardWasRead : Keys → ℕ → Whole → Type 0
+GuardWasRead k guard (OfBatch place epoch) = guard ≤ k.revision
+GuardWasRead k guard (OfImage offset) = guard ≤ offset_of_image k.image
 
 -- where a transaction takes effect behind the one that put a part, the part stands from then on, as long as no image stands for it
 abbrev pub PartsStand : Type 0
 PartsStand = (size : ℕ) (bytes_of : Whole → List ℕ) (before between later : List PartChange) (guard : ℕ) (whole : Whole) (at : ℕ) (bytes : List ℕ)
     → AllByRecursion (IsPartOf size bytes_of) (before ++ Put guard whole at bytes ∷ (between ++ later))
-    → AllByRecursion IsLater (before ++ Put guard whole at bytes ∷ (between ++ later))
-    → IsKnown (store before).point.keys guard whole → guards (store (before ++ Put guard whole at bytes ∷ between)).point.keys guard whole ≡ true
+    → AllByRecursion DropsLater (before ++ Put guard whole at bytes ∷ (between ++ later))
+    → GuardWasRead (store before).point.keys guard whole → guards (store (before ++ Put guard whole at bytes ∷ between)).point.keys guard whole ≡ true
     → ((store (before ++ Put guard whole at bytes ∷ (between ++ later))).parts whole at ≡ Some (part size at (bytes_of whole)))
-    ⊎ (place_of whole < offset_of_image (store (before ++ Put guard whole at bytes ∷ (between ++ later))).point.keys.image)
+    ⊎ (place_of_whole whole < offset_of_image (store (before ++ Put guard whole at bytes ∷ (between ++ later))).point.keys.image)
