@@ -1,73 +1,61 @@
 -- Whole runs of cores.
 use Rattle.std.proofs.Common.{◌≡◌, ◌∙◌, sym, ℕ, Bool, true, false, cond, List, [], ◌∷◌, ◌++◌, refl, ap, subst}
 use Rattle.std.proofs.lemmas.Bool.{eqb-true}
-use Rattle.std.specs.Prelude.{Some, nat_eq, map, fold}
-use Rattle.std.specs.List.{AllByRecursion}
+use Rattle.std.specs.Prelude.{Some, nat_eq, fold}
 use Rattle.law_quorum.specs.Batches.{Batch, behind}
 use Rattle.law_quorum.specs.Nodes.{Node}
 use Rattle.law_quorum.specs.Nodes as nodes
 use Rattle.law_link.specs.Frames.{Act, AllMayHappen, Arrive, Emit, MayHappen, Network, NetworkStep, Snapshot, emitted, leads_epoch, network_after, no_network}
-use Rattle.law_link.specs.Links.{Ask, Begin, Clear, Execute, Give, GiveUp, Hear, LetGo, Link, LinkStep, Make, Pass, Read, Renew, Settle, Stray, Take, Web, Win, Write, idle, stepped}
+use Rattle.law_link.specs.Links.{Clear, Execute, Link, Make, Web, idle, stepped}
 use Rattle.law_link.proofs.LateFrames.{IsNetwork, at_node, first_network, network_right}
-use Rattle.law_core.specs.Core.{LinkCore, Elected, Leading, Role, Standby, core_step, first_core}
-use Rattle.law_core.specs.Runs.{AllMayCome, Comes, CoresKeepTheRules, Event, Happens, IsOfNoLink, MayCome, CoreRun, all_steps, cores_after, link_steps, no_run, run_after, steps_of}
-use Rattle.law_core.proofs.CoreSteps.{Does, IsCore, IsOf, IsRole, came_right}
+use Rattle.law_core.specs.Core.{CallAppend, CallDrop, Deed, Elected, HandBatch, HandCommit, HandImage, HandLead, HandLost, Hear, Hold, Leading, LinkCore, Pass, Resign, Role, Serve, Standby, core_step}
+use Rattle.law_core.specs.Runs.{AllMayCome, Comes, CoreRun, CoresKeepTheRules, DeedsAreHanded, Event, Happens, IsOfNoLink, MayCome, acts, all_steps, behind_first, no_run, run_after, step_of, steps_of}
+use Rattle.law_core.proofs.CoreSteps.{Does, IsCore, IsRole, came_right}
 
--- where a node's link takes a step, another one and its daemon stay as they are
-module _ (k j : ℕ) (other : nat_eq k j ≡ false) (w : Web) where
-  not_there : {X : Type 0} (new old : X) (i : ℕ) → i ≡ k → cond (nat_eq i j) new old ≡ old
-  not_there new old i is = ap (λ (t : Bool). cond t new old) (ap (λ (x : ℕ). nat_eq x j) is ∙ other)
+-- what a core does leaves another node and its link as they are
+module _ (k j : ℕ) (other : nat_eq k j ≡ false) (r : List Batch) (w : Web) where
+  not_there : {X : Type 0} (new old : X) → cond (nat_eq k j) new old ≡ old
+  not_there new old = ap (λ (t : Bool). cond t new old) other
 
-  node_stays : (step : LinkStep) → IsOf k step → (stepped w step).cluster.nodes j ≡ w.cluster.nodes j
-  node_stays (Read i b) is = not_there (nodes.fed (w.cluster.nodes i) b) (w.cluster.nodes j) i is
-  node_stays (Take i image) is = not_there (nodes.loaded (w.cluster.nodes i) image) (w.cluster.nodes j) i is
-  node_stays (Begin i e) is = not_there (nodes.told_to_lead (w.cluster.nodes i) e.epoch) (w.cluster.nodes j) i is
-  node_stays (Settle i e) is =
-      not_there (nodes.committed (w.cluster.nodes i) (behind (w.cluster.nodes i).end (w.links i).asked)) (w.cluster.nodes j) i is
-  node_stays (GiveUp i epoch) is = not_there (nodes.after_loss (w.cluster.nodes i)) (w.cluster.nodes j) i is
-  node_stays (Renew i) is = not_there nodes.new_node (w.cluster.nodes j) i is
-  node_stays (Win i e) is = refl
-  node_stays (Hear i b rest) is = refl
-  node_stays (Pass i b rest) is = refl
-  node_stays (Ask i e group rest) is = refl
-  node_stays (Give i keep) is = refl
-  node_stays (LetGo i) is = refl
-  node_stays (Execute i call) is = absurd is
-  node_stays (Clear i keep) is = absurd is
-  node_stays (Make change) is = absurd is
-  node_stays (Write i b) is = absurd is
-  node_stays (Stray i b) is = absurd is
+  node_stays : (deed : Deed) → (stepped w (step_of k r deed)).cluster.nodes j ≡ w.cluster.nodes j
+  node_stays (HandBatch b) = not_there (nodes.fed (w.cluster.nodes k) b) (w.cluster.nodes j)
+  node_stays (HandImage image) = not_there (nodes.loaded (w.cluster.nodes k) image) (w.cluster.nodes j)
+  node_stays (HandLead e) = not_there (nodes.told_to_lead (w.cluster.nodes k) e.epoch) (w.cluster.nodes j)
+  node_stays (HandCommit e end) = not_there (nodes.committed (w.cluster.nodes k) (behind (w.cluster.nodes k).end (w.links k).asked)) (w.cluster.nodes j)
+  node_stays (HandLost e) = not_there (nodes.after_loss (w.cluster.nodes k)) (w.cluster.nodes j)
+  node_stays Serve = not_there nodes.new_node (w.cluster.nodes j)
+  node_stays (Hear b) = refl
+  node_stays (Pass b) = refl
+  node_stays (CallAppend e group waits) = refl
+  node_stays (CallDrop before image) = refl
+  node_stays (Hold e) = refl
+  node_stays (Resign e) = refl
 
-  link_stays : (step : LinkStep) → IsOf k step → (stepped w step).links j ≡ w.links j
-  link_stays (Read i b) is = refl
-  link_stays (Take i image) is = refl
-  link_stays (Begin i e) is = not_there (record (w.links i) { asked = []; waits = [] }) (w.links j) i is
-  link_stays (Settle i e) is = not_there (record (w.links i) { asked = [] }) (w.links j) i is
-  link_stays (GiveUp i epoch) is = not_there (idle (w.links i)) (w.links j) i is
-  link_stays (Renew i) is = not_there (record (idle (w.links i)) { pipe = [] }) (w.links j) i is
-  link_stays (Win i e) is = not_there
-      (record { held = Some e; asked = []; waits = []; pipe = (w.links i).pipe; won = e.epoch ∷ (w.links i).won; calls = (w.links i).calls; keeps = (w.links i).keeps })
-      (w.links j) i is
-  link_stays (Hear i b rest) is = not_there (record (w.links i) { pipe = rest; waits = (w.links i).waits ++ b ∷ [] }) (w.links j) i is
-  link_stays (Pass i b rest) is = not_there (record (w.links i) { pipe = rest }) (w.links j) i is
-  link_stays (Ask i e group rest) is = not_there
-      (record (w.links i) { asked = group; waits = rest; calls = record { epoch = e.epoch; made = e.made; group = group } ∷ (w.links i).calls }) (w.links j) i is
-  link_stays (Give i keep) is = not_there (record (w.links i) { keeps = keep ∷ (w.links i).keeps }) (w.links j) i is
-  link_stays (LetGo i) is = not_there (idle (w.links i)) (w.links j) i is
-  link_stays (Execute i call) is = absurd is
-  link_stays (Clear i keep) is = absurd is
-  link_stays (Make change) is = absurd is
-  link_stays (Write i b) is = absurd is
-  link_stays (Stray i b) is = absurd is
+  link_stays : (deed : Deed) → (stepped w (step_of k r deed)).links j ≡ w.links j
+  link_stays (HandBatch b) = refl
+  link_stays (HandImage image) = refl
+  link_stays (HandLead e) = not_there (record (w.links k) { asked = []; waits = [] }) (w.links j)
+  link_stays (HandCommit e end) = not_there (record (w.links k) { asked = [] }) (w.links j)
+  link_stays (HandLost e) = not_there (idle (w.links k)) (w.links j)
+  link_stays Serve = not_there (record (idle (w.links k)) { pipe = [] }) (w.links j)
+  link_stays (Hear b) = not_there (record (w.links k) { pipe = r; waits = (w.links k).waits ++ b ∷ [] }) (w.links j)
+  link_stays (Pass b) = not_there (record (w.links k) { pipe = r }) (w.links j)
+  link_stays (CallAppend e group waits) =
+      not_there (record (w.links k) { asked = group; waits = waits; calls = record { epoch = e.epoch; made = e.made; group = group } ∷ (w.links k).calls }) (w.links j)
+  link_stays (CallDrop before image) = not_there (record (w.links k) { keeps = record { before = before; image = image } ∷ (w.links k).keeps }) (w.links j)
+  link_stays (Hold e) = not_there
+      (record { held = Some e; asked = []; waits = []; pipe = (w.links k).pipe; won = e.epoch ∷ (w.links k).won; calls = (w.links k).calls; keeps = (w.links k).keeps })
+      (w.links j)
+  link_stays (Resign e) = not_there (idle (w.links k)) (w.links j)
 
-module _ (k j : ℕ) (other : nat_eq k j ≡ false) where
-  stays : (n : Network) (steps : List LinkStep) (c : LinkCore) → AllByRecursion (IsOf k) steps → IsCore c (n.web.cluster.nodes j) (n.web.links j)
-      → IsCore c ((fold network_after n (map Act steps)).web.cluster.nodes j) ((fold network_after n (map Act steps)).web.links j)
-  stays n [] c own is = is
-  stays n (step ∷ steps) c (here, own) is =
-      stays (network_after n (Act step)) steps c own
-      (subst (λ (v : Node). IsCore c v ((stepped n.web step).links j)) (sym (node_stays k j other n.web step here))
-      (subst (λ (l : Link). IsCore c (n.web.cluster.nodes j) l) (sym (link_stays k j other n.web step here)) is))
+module _ (k j : ℕ) (other : nat_eq k j ≡ false) (r : List Batch) where
+  stays : (n : Network) (deeds : List Deed) (c : LinkCore) → IsCore c (n.web.cluster.nodes j) (n.web.links j)
+      → IsCore c ((fold network_after n (acts k r deeds)).web.cluster.nodes j) ((fold network_after n (acts k r deeds)).web.links j)
+  stays n [] c is = is
+  stays n (deed ∷ deeds) c is =
+      stays (network_after n (Act (step_of k r deed))) deeds c
+      (subst (λ (v : Node). IsCore c v ((stepped n.web (step_of k r deed)).links j)) (sym (node_stays k j other r n.web deed))
+      (subst (λ (l : Link). IsCore c (n.web.cluster.nodes j) l) (sym (link_stays k j other r n.web deed)) is))
 
 -- what a daemon writes changes no role
 module _ (c : LinkCore) (v : Node) (l : Link) (is : IsCore c v l) where
@@ -127,20 +115,24 @@ module _ (make : List Batch → List ℕ) where
     event_right (Happens step) (no_link, may) =
         ((may, tt), record { network = (network_right make r.network step h.network may).2; cores = happens_right step no_link })
     event_right (Comes k came) right =
-        let c = r.cores k in
-        let steps = link_steps k (r.network.web.links k).pipe c came in
-        let d : Does make k r.network steps (core_step c came).0 = came_right make k r.network h.network c came (h.cores k) right in
-        (d.may, record { network = networks r.network (map Act steps) h.network d.may; cores = both_cores k (core_step c came).0 steps d })
+        let rest = behind_first (r.network.web.links k).pipe in
+        let out = core_step (r.cores k) came in
+        let d : Does make k rest r.network out.1 out.0 = came_right make k r.network h.network (r.cores k) came (h.cores k) right in
+        (d.may, record { network = networks r.network (acts k rest out.1) h.network d.may; cores = both_cores k rest out.0 out.1 d })
       where
-        both_cores : (k : ℕ) (c : LinkCore) (steps : List LinkStep) → Does make k r.network steps c → (j : ℕ)
-            → IsCore (cond (nat_eq k j) c (r.cores j)) ((fold network_after r.network (map Act steps)).web.cluster.nodes j) ((fold network_after r.network (map Act steps)).web.links j)
-        both_cores k c steps d j = by (nat_eq k j) refl
+        both_cores : (k : ℕ) (rest : List Batch) (c : LinkCore) (deeds : List Deed) → Does make k rest r.network deeds c → (j : ℕ)
+            → IsCore (cond (nat_eq k j) c (r.cores j)) ((fold network_after r.network (acts k rest deeds)).web.cluster.nodes j) ((fold network_after r.network (acts k rest deeds)).web.links j)
+        both_cores k rest c deeds d j = by (nat_eq k j) refl
           where
             by : (t : Bool) → nat_eq k j ≡ t
-                → IsCore (cond t c (r.cores j)) ((fold network_after r.network (map Act steps)).web.cluster.nodes j) ((fold network_after r.network (map Act steps)).web.links j)
-            by true e = subst (λ (i : ℕ). IsCore c ((fold network_after r.network (map Act steps)).web.cluster.nodes i) ((fold network_after r.network (map Act steps)).web.links i))
+                → IsCore (cond t c (r.cores j)) ((fold network_after r.network (acts k rest deeds)).web.cluster.nodes j) ((fold network_after r.network (acts k rest deeds)).web.links j)
+            by true e = subst (λ (i : ℕ). IsCore c ((fold network_after r.network (acts k rest deeds)).web.cluster.nodes i) ((fold network_after r.network (acts k rest deeds)).web.links i))
                 (eqb-true k j e) d.core
-            by false e = stays k j e r.network steps (r.cores j) d.own (h.cores j)
+            by false e = stays k j e rest r.network deeds (r.cores j) (h.cores j)
+
+  runs_right : (r : CoreRun) (events : List Event) → IsRun r → AllMayCome make r events → IsRun (fold run_after r events)
+  runs_right r [] h a = h
+  runs_right r (event ∷ events) h (here, a) = runs_right (run_after r event) events (event_right r h event here).1 a
 
   events_right : (r : CoreRun) (events : List Event) → IsRun r → AllMayCome make r events → AllMayHappen make r.network (all_steps r events)
   events_right r [] h a = tt
@@ -153,3 +145,9 @@ module _ (make : List Batch → List ℕ) where
 
 pub cores_keep_the_rules : CoresKeepTheRules
 cores_keep_the_rules make events a = events_right make no_run events (first_run make) a
+
+pub deeds_are_handed : DeedsAreHanded
+deeds_are_handed make events k came a right =
+    let r = fold run_after no_run events in
+    let h : IsRun make r = runs_right make no_run events (first_run make) a in
+    (came_right make k r.network h.network (r.cores k) came (h.cores k) right).handed

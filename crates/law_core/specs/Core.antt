@@ -32,12 +32,32 @@ pub data Came : Type 0 where
   Over : Came
 
 pub data Deed : Type 0 where
-  Hand : Frame → Deed
-  -- calls for an append for the leadership whose key was made at a revision, and for an image to take the place of batches
-  CallAppend : ℕ → List Batch → Deed
+  -- it serves a new daemon; the next batch of its daemon waits, or is passed over
+  Serve : Deed
+  Hear : Batch → Deed
+  Pass : Batch → Deed
+  -- it hands its daemon a batch, an image, the leadership that it holds, a commit up to an end, the loss of the leadership
+  HandBatch : Batch → Deed
+  HandImage : StoredImage → Deed
+  HandLead : Held → Deed
+  HandCommit : Held → ℕ → Deed
+  HandLost : Held → Deed
+  -- it calls for an append of batches, behind which others wait, and for an image to take the place of batches
+  CallAppend : Held → List Batch → List Batch → Deed
   CallDrop : ℕ → StoredImage → Deed
-  -- gives the leadership back whose key was made at a revision
-  Resign : ℕ → Deed
+  -- it holds a leadership from now on, and gives one back
+  Hold : Held → Deed
+  Resign : Held → Deed
+
+-- what is under way to its daemon behind that
+abbrev pub frames_with : List Frame → Deed → List Frame
+frames_with frames Serve = []
+frames_with frames (HandBatch b) = frames ++ Feed b ∷ []
+frames_with frames (HandImage image) = frames ++ Load image ∷ []
+frames_with frames (HandLead h) = frames ++ Lead h.epoch h.start ∷ []
+frames_with frames (HandCommit h end) = frames ++ Commit h.epoch end ∷ []
+frames_with frames (HandLost h) = frames ++ Lost h.epoch ∷ []
+frames_with frames other = frames
 
 -- ---- the batches that go together in an append: at least one, at most a hundred, of a mebibyte together
 
@@ -78,62 +98,62 @@ after_asking h (b ∷ bs) = Leading h (append_group b bs).0 (append_group b bs).
 
 abbrev pub asking : Held → List Batch → List Deed
 asking h [] = []
-asking h (b ∷ bs) = CallAppend h.made (append_group b bs).0 ∷ []
+asking h (b ∷ bs) = CallAppend h (append_group b bs).0 (append_group b bs).1 ∷ []
 
 -- it makes its daemon lead, where that was handed the log that the leadership began with
 abbrev pub after_lead_when_fed : ℕ → Held → Role
 after_lead_when_fed fed h = cond (nat_eq fed h.start) (Leading h [] []) (Elected h)
 
 abbrev pub leading : ℕ → Held → List Deed
-leading fed h = cond (nat_eq fed h.start) (Hand (Lead h.epoch h.start) ∷ []) []
+leading fed h = cond (nat_eq fed h.start) (HandLead h ∷ []) []
 
 abbrev pub resigning : Role → List Deed
 resigning Standby = []
-resigning (Elected h) = Resign h.made ∷ []
-resigning (Leading h asked waits) = Resign h.made ∷ []
+resigning (Elected h) = Resign h ∷ []
+resigning (Leading h asked waits) = Resign h ∷ []
 
 -- a batch of the leadership waits, and is called for where no append is under way
-abbrev pub on_batch : ℕ → Held → List Batch → List Batch → Outcome
-on_batch fed h [] waits = becomes fed (after_asking h waits) (asking h waits)
-on_batch fed h (first ∷ asked) waits = becomes fed (Leading h (first ∷ asked) waits) []
+abbrev pub on_batch : ℕ → Held → List Batch → List Batch → Batch → Outcome
+on_batch fed h [] waits b = becomes fed (after_asking h waits) (Hear b ∷ asking h waits)
+on_batch fed h (first ∷ asked) waits b = becomes fed (Leading h (first ∷ asked) waits) (Hear b ∷ [])
 
 abbrev pub on_appended : ℕ → Role → Batch → Outcome
 on_appended fed (Leading h asked waits) b =
-    cond (nat_eq b.epoch h.epoch) (on_batch fed h asked (waits ++ b ∷ [])) (becomes fed (Leading h asked waits) [])
-on_appended fed other b = becomes fed other []
+    cond (nat_eq b.epoch h.epoch) (on_batch fed h asked (waits ++ b ∷ []) b) (becomes fed (Leading h asked waits) (Pass b ∷ []))
+on_appended fed other b = becomes fed other (Pass b ∷ [])
 
 abbrev pub on_found : ℕ → Role → Batch → Outcome
-on_found fed Standby b = cond (nat_eq b.base fed) (becomes (fed + b.count) Standby (Hand (Feed b) ∷ [])) (becomes fed Standby [])
+on_found fed Standby b = cond (nat_eq b.base fed) (becomes (fed + b.count) Standby (HandBatch b ∷ [])) (becomes fed Standby [])
 on_found fed (Elected h) b =
-    cond (nat_eq b.base fed) (becomes (fed + b.count) (after_lead_when_fed (fed + b.count) h) (Hand (Feed b) ∷ leading (fed + b.count) h)) (becomes fed (Elected h) [])
+    cond (nat_eq b.base fed) (becomes (fed + b.count) (after_lead_when_fed (fed + b.count) h) (HandBatch b ∷ leading (fed + b.count) h)) (becomes fed (Elected h) [])
 on_found fed (Leading h asked waits) b = becomes fed (Leading h asked waits) []
 
 abbrev pub on_found_image : ℕ → Role → StoredImage → Outcome
-on_found_image fed Standby image = cond (nat_lt fed image.offset) (becomes image.offset Standby (Hand (Load image) ∷ [])) (becomes fed Standby [])
+on_found_image fed Standby image = cond (nat_lt fed image.offset) (becomes image.offset Standby (HandImage image ∷ [])) (becomes fed Standby [])
 on_found_image fed (Elected h) image =
-    cond (nat_lt fed image.offset) (becomes image.offset (after_lead_when_fed image.offset h) (Hand (Load image) ∷ leading image.offset h)) (becomes fed (Elected h) [])
+    cond (nat_lt fed image.offset) (becomes image.offset (after_lead_when_fed image.offset h) (HandImage image ∷ leading image.offset h)) (becomes fed (Elected h) [])
 on_found_image fed (Leading h asked waits) image = becomes fed (Leading h asked waits) []
 
--- one that it holds already isn't given up for another
+-- one that it holds isn't given up for another
 abbrev pub on_won : ℕ → Role → Held → Outcome
-on_won fed Standby h = becomes fed (after_lead_when_fed fed h) (leading fed h)
-on_won fed other h = becomes fed other (Resign h.made ∷ [])
+on_won fed Standby h = becomes fed (after_lead_when_fed fed h) (Hold h ∷ leading fed h)
+on_won fed other h = becomes fed other []
 
 -- the append under way stands; an answer to an earlier one is passed over
 abbrev pub on_stood : ℕ → Role → ℕ → ℕ → Outcome
 on_stood fed (Leading h (first ∷ asked) waits) made base =
     cond (nat_eq h.made made && nat_eq first.base base)
-    (becomes (behind fed (first ∷ asked)) (after_asking h waits) (Hand (Commit h.epoch (behind fed (first ∷ asked))) ∷ asking h waits))
+    (becomes (behind fed (first ∷ asked)) (after_asking h waits) (HandCommit h (behind fed (first ∷ asked)) ∷ asking h waits))
     (becomes fed (Leading h (first ∷ asked) waits) [])
 on_stood fed other made base = becomes fed other []
 
 abbrev pub on_over : ℕ → Role → Outcome
-on_over fed (Leading h asked waits) = becomes fed Standby (Hand (Lost h.epoch) ∷ Resign h.made ∷ [])
-on_over fed (Elected h) = becomes fed Standby (Resign h.made ∷ [])
+on_over fed (Leading h asked waits) = becomes fed Standby (HandLost h ∷ Resign h ∷ [])
+on_over fed (Elected h) = becomes fed Standby (Resign h ∷ [])
 on_over fed Standby = becomes fed Standby []
 
 abbrev pub core_step : LinkCore → Came → Outcome
-core_step c Joined = becomes 0 Standby (resigning c.role)
+core_step c Joined = becomes 0 Standby (Serve ∷ resigning c.role)
 core_step c (Appended b) = on_appended c.fed c.role b
 core_step c (Imaged before image) = becomes c.fed c.role (cond (nat_lt before image.offset) (CallDrop before image ∷ []) [])
 core_step c (Found b) = on_found c.fed c.role b

@@ -1,64 +1,32 @@
 -- Runs in which each link is a core, and what comes to it is right of daemons and store.
-use Rattle.std.specs.Prelude.{◌≡◌, ℕ, Bool, cond, ◌+◌, ◌&&◌, List, [], ◌∷◌, ◌++◌, map, nat_eq, nat_lt, fold}
-use Rattle.law_quorum.specs.Batches.{Batch, StoredImage, BatchStandsAt, ImageStandsFor}
-use Rattle.law_quorum.specs.Changes.{base_of_first}
-use Rattle.law_link.specs.Frames.{Act, AllMayHappen, Arrive, Emit, MayHappen, Network, NetworkStep, Snapshot, network_after, no_network, set_at}
-use Rattle.law_link.specs.Links.{Ask, Begin, Call, Clear, Execute, Give, GiveUp, Has, Hear, Held, Keep, LetGo, Link, LinkStep, Make, Pass, Read, Renew, Settle, Take, TookLeadership, Win}
-use Rattle.law_core.specs.Core.{Appended, Came, LinkCore, Elected, Found, FoundImage, Imaged, Joined, Leading, Over, Role, Standby, Stood, Won, core_step, first_core, append_group}
+use Rattle.std.specs.Prelude.{◌≡◌, ℕ, List, [], ◌∷◌, ◌++◌, map, fold}
+use Rattle.law_quorum.specs.Batches.{Batch, BatchStandsAt, ImageStandsFor}
+use Rattle.law_link.specs.Frames.{Act, AllMayHappen, MayHappen, Network, NetworkStep, network_after, no_network, set_at}
+use Rattle.law_link.specs.Links.{Ask, Begin, Call, Clear, Execute, Give, GiveUp, Has, LetGo, Link, LinkStep, Make, Read, Renew, Settle, Take, TookLeadership, Win}
+use Rattle.law_link.specs.Links as webs
+use Rattle.law_core.specs.Core.{Appended, CallAppend, CallDrop, Came, Deed, Found, FoundImage, HandBatch, HandCommit, HandImage, HandLead, HandLost, Hear, Hold, Imaged, Joined, LinkCore, Over, Pass, Resign, Serve, Stood, Won, core_step, first_core, frames_with}
 
--- ---- what a core does, in the words of the laws; of the batches under way from its daemon, those behind the first
-
-abbrev pub ask_step : ℕ → Held → List Batch → List LinkStep
-ask_step k h [] = []
-ask_step k h (b ∷ bs) = Ask k h (append_group b bs).0 (append_group b bs).1 ∷ []
-
-abbrev pub begin_step : ℕ → ℕ → Held → List LinkStep
-begin_step k fed h = cond (nat_eq fed h.start) (Begin k h ∷ []) []
-
-abbrev pub batch_steps : ℕ → Held → List Batch → List Batch → List LinkStep
-batch_steps k h [] waits = ask_step k h waits
-batch_steps k h (first ∷ asked) waits = []
-
-abbrev pub appended_steps : ℕ → Role → Batch → List Batch → List LinkStep
-appended_steps k (Leading h asked waits) b rest = cond (nat_eq b.epoch h.epoch) (Hear k b rest ∷ batch_steps k h asked (waits ++ b ∷ [])) (Pass k b rest ∷ [])
-appended_steps k other b rest = Pass k b rest ∷ []
-
-abbrev pub found_steps : ℕ → ℕ → Role → Batch → List LinkStep
-found_steps k fed Standby b = cond (nat_eq b.base fed) (Read k b ∷ []) []
-found_steps k fed (Elected h) b = cond (nat_eq b.base fed) (Read k b ∷ begin_step k (fed + b.count) h) []
-found_steps k fed (Leading h asked waits) b = []
-
-abbrev pub image_steps : ℕ → ℕ → Role → StoredImage → List LinkStep
-image_steps k fed Standby image = cond (nat_lt fed image.offset) (Take k image ∷ []) []
-image_steps k fed (Elected h) image = cond (nat_lt fed image.offset) (Take k image ∷ begin_step k image.offset h) []
-image_steps k fed (Leading h asked waits) image = []
-
-abbrev pub won_steps : ℕ → ℕ → Role → Held → List LinkStep
-won_steps k fed Standby h = Win k h ∷ begin_step k fed h
-won_steps k fed other h = []
-
-abbrev pub stood_steps : ℕ → Role → ℕ → ℕ → List LinkStep
-stood_steps k (Leading h (first ∷ asked) waits) made base = cond (nat_eq h.made made && nat_eq first.base base) (Settle k h ∷ ask_step k h waits) []
-stood_steps k other made base = []
-
-abbrev pub over_steps : ℕ → Role → List LinkStep
-over_steps k (Leading h asked waits) = GiveUp k h.epoch ∷ []
-over_steps k (Elected h) = LetGo k ∷ []
-over_steps k Standby = []
+-- what a core does, as a step of the link of a node; of the batches under way from its daemon those behind the first
+abbrev pub step_of : ℕ → List Batch → Deed → LinkStep
+step_of k rest Serve = Renew k
+step_of k rest (Hear b) = webs.Hear k b rest
+step_of k rest (Pass b) = webs.Pass k b rest
+step_of k rest (HandBatch b) = Read k b
+step_of k rest (HandImage image) = Take k image
+step_of k rest (HandLead h) = Begin k h
+step_of k rest (HandCommit h end) = Settle k h
+step_of k rest (HandLost h) = GiveUp k h.epoch
+step_of k rest (CallAppend h group waits) = Ask k h group waits
+step_of k rest (CallDrop before image) = Give k (record { before = before; image = image })
+step_of k rest (Hold h) = Win k h
+step_of k rest (Resign h) = LetGo k
 
 abbrev pub behind_first : List Batch → List Batch
 behind_first [] = []
 behind_first (b ∷ bs) = bs
 
-abbrev pub link_steps : ℕ → List Batch → LinkCore → Came → List LinkStep
-link_steps k pipe c Joined = Renew k ∷ []
-link_steps k pipe c (Appended b) = appended_steps k c.role b (behind_first pipe)
-link_steps k pipe c (Imaged before image) = cond (nat_lt before image.offset) (Give k (record { before = before; image = image }) ∷ []) []
-link_steps k pipe c (Found b) = found_steps k c.fed c.role b
-link_steps k pipe c (FoundImage image) = image_steps k c.fed c.role image
-link_steps k pipe c (Won h) = won_steps k c.fed c.role h
-link_steps k pipe c (Stood made base) = stood_steps k c.role made base
-link_steps k pipe c Over = over_steps k c.role
+abbrev pub acts : ℕ → List Batch → List Deed → List NetworkStep
+acts k rest deeds = map (λ (deed : Deed). Act (step_of k rest deed)) deeds
 
 -- ---- runs
 
@@ -73,7 +41,7 @@ pub data Event : Type 0 where
   Happens : NetworkStep → Event
 
 abbrev pub steps_of : CoreRun → Event → List NetworkStep
-steps_of r (Comes k came) = map Act (link_steps k (r.network.web.links k).pipe (r.cores k) came)
+steps_of r (Comes k came) = acts k (behind_first (r.network.web.links k).pipe) (core_step (r.cores k) came).1
 steps_of r (Happens step) = step ∷ []
 
 abbrev pub cores_after : CoreRun → Event → ℕ → LinkCore
@@ -129,6 +97,12 @@ all_steps r (event ∷ events) = steps_of r event ++ all_steps (run_after r even
 abbrev pub no_run : CoreRun
 no_run = record { network = no_network; cores = λ k. first_core }
 
--- links that are cores keep the rules of links
+-- Links that are cores keep the rules of links; and what is under way to a daemon is what its core did.
 abbrev pub CoresKeepTheRules : Type 0
 CoresKeepTheRules = (make : List Batch → List ℕ) (events : List Event) → AllMayCome make no_run events → AllMayHappen make no_network (all_steps no_run events)
+
+abbrev pub DeedsAreHanded : Type 0
+DeedsAreHanded = (make : List Batch → List ℕ) (events : List Event) (k : ℕ) (came : Came) → AllMayCome make no_run events
+    → IsRightOf make (fold run_after no_run events).network k came
+    → (run_after (fold run_after no_run events) (Comes k came)).network.frames k
+    ≡ fold frames_with ((fold run_after no_run events).network.frames k) (core_step ((fold run_after no_run events).cores k) came).1
