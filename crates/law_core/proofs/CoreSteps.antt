@@ -38,12 +38,12 @@ there k P h = subst P (sym (itself k)) h
 joined_behind : (most room : ℕ) (bs : List Batch) → (append_group_behind most room bs).0 ++ (append_group_behind most room bs).1 ≡ bs
 joined_behind most room [] = refl
 joined_behind zero room (b ∷ bs) = refl
-joined_behind (suc most) room (b ∷ bs) = by (nat_le (length b.bytes) room)
-  where
-    by : (t : Bool) → (cond t (with_first b (append_group_behind most (room - length b.bytes) bs)) ([], b ∷ bs)).0
-        ++ (cond t (with_first b (append_group_behind most (room - length b.bytes) bs)) ([], b ∷ bs)).1 ≡ b ∷ bs
-    by true = ap (λ (xs : List Batch). b ∷ xs) (joined_behind most (room - length b.bytes) bs)
-    by false = refl
+joined_behind (suc most) room (b ∷ bs) =
+    elim (nat_le (length b.bytes) room) as (λ t. (cond t (with_first b (append_group_behind most (room - length b.bytes) bs)) ([], b ∷ bs)).0
+        ++ (cond t (with_first b (append_group_behind most (room - length b.bytes) bs)) ([], b ∷ bs)).1 ≡ b ∷ bs) [
+      | true ↦ ap (λ (xs : List Batch). b ∷ xs) (joined_behind most (room - length b.bytes) bs)
+      | false ↦ refl
+    ]
 
 joined : (b : Batch) (bs : List Batch) → (append_group b bs).0 ++ (append_group b bs).1 ≡ b ∷ bs
 joined b bs = ap (λ (xs : List Batch). b ∷ xs) (joined_behind (MOST - 1) (ROOM - length b.bytes) bs)
@@ -167,15 +167,15 @@ module _ (make : List Batch → List ℕ) (k : ℕ) (r : List Batch) where
     abbrev m : Link
     m = n.web.links k
 
+    rejoin_does : (e : Held) → Does n (Serve ∷ Resign e ∷ []) (record { fed = 0; role = Standby })
+    rejoin_does e = more n Serve (Resign e ∷ []) (record { fed = 0; role = Standby }) tt tt
+        (resign_does (after n Serve) 0 e (there k (λ t. (cond t nodes.new_node w).leads ≡ None) refl) (there k (λ t. (cond t nodes.new_node w).end ≡ 0) refl))
+
     join_does : (role : Role) → Does n (Serve ∷ resigning role) (record { fed = 0; role = Standby })
     join_does Standby = one n Serve (record { fed = 0; role = Standby }) tt tt
         (there k (λ t. IsCore (record { fed = 0; role = Standby }) (cond t nodes.new_node w) (cond t (record (idle m) { pipe = [] }) m)) (record { fed = refl; role = (refl, refl) }))
-    join_does (Elected e) = rejoined e
-      where
-        rejoined : (e : Held) → Does n (Serve ∷ Resign e ∷ []) (record { fed = 0; role = Standby })
-        rejoined e = more n Serve (Resign e ∷ []) (record { fed = 0; role = Standby }) tt tt
-            (resign_does (after n Serve) 0 e (there k (λ t. (cond t nodes.new_node w).leads ≡ None) refl) (there k (λ t. (cond t nodes.new_node w).end ≡ 0) refl))
-    join_does (Leading e asked waits) = join_does (Elected e)
+    join_does (Elected e) = rejoin_does e
+    join_does (Leading e asked waits) = rejoin_does e
 
     over_does : (c : LinkCore) → IsCore c w m → Does n (core_step c Over).1 (core_step c Over).0
     over_does c is = by c.role is.role
@@ -295,13 +295,11 @@ module _ (make : List Batch → List ℕ) (k : ℕ) (r : List Batch) where
         → Does n (core_step c (Won e)).1 (core_step c (Won e)).0
     won_does c e is took = by c.role is.role
       where
-        won : Link
-        won = record { held = Some e; asked = []; waits = []; pipe = m.pipe; won = e.epoch ∷ m.won; calls = m.calls; keeps = m.keeps }
-
         by : (role : Role) → IsRole role w m → Does n (on_won c.fed role e).1 (on_won c.fed role e).0
         by Standby x = more n (Hold e) (leading c.fed e) (record { fed = c.fed; role = after_lead_when_fed c.fed e }) tt (x.1, took.0, took.1)
             (begin_does (after n (Hold e)) c.fed e
-            (there k (λ t. IsCore (record { fed = c.fed; role = Elected e }) w (cond t won m)) (record { fed = is.fed; role = (x.0, refl) })))
+            (there k (λ t. IsCore (record { fed = c.fed; role = Elected e }) w (cond t (record { held = Some e; asked = []; waits = []; pipe = m.pipe; won = e.epoch ∷ m.won; calls = m.calls; keeps = m.keeps }) m))
+            (record { fed = is.fed; role = (x.0, refl) })))
         by (Elected held) x = none n (record { fed = c.fed; role = Elected held }) (record { fed = is.fed; role = x })
         by (Leading held asked waits) x = none n (record { fed = c.fed; role = Leading held asked waits }) (record { fed = is.fed; role = x })
 
@@ -347,11 +345,10 @@ module _ (make : List Batch → List ℕ) (k : ℕ) (r : List Batch) where
           by (Leading e [] waits) x = none n (record { fed = c.fed; role = Leading e [] waits }) (record { fed = is.fed; role = x })
           by (Leading e (first ∷ asked) waits) x = at (nat_eq e.made made && nat_eq first.base base) refl
             where
-              abbrev settled : LinkCore × List Deed
-              settled = becomes (behind c.fed (first ∷ asked)) (after_asking e waits) (HandCommit e (behind c.fed (first ∷ asked)) ∷ asking e waits)
-
               at : (t : Bool) → nat_eq e.made made && nat_eq first.base base ≡ t
-                  → Does n (cond t settled (becomes c.fed (Leading e (first ∷ asked) waits) [])).1 (cond t settled (becomes c.fed (Leading e (first ∷ asked) waits) [])).0
+                  → Does n (cond t (becomes (behind c.fed (first ∷ asked)) (after_asking e waits) (HandCommit e (behind c.fed (first ∷ asked)) ∷ asking e waits))
+                      (becomes c.fed (Leading e (first ∷ asked) waits) [])).1 (cond t (becomes (behind c.fed (first ∷ asked)) (after_asking e waits) (HandCommit e (behind c.fed (first ∷ asked)) ∷ asking e waits))
+                      (becomes c.fed (Leading e (first ∷ asked) waits) [])).0
               at false y = none n (record { fed = c.fed; role = Leading e (first ∷ asked) waits }) (record { fed = is.fed; role = x })
               at true y =
                   let t = both (nat_eq e.made made) (nat_eq first.base base) y in

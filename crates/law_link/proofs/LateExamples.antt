@@ -8,32 +8,32 @@ use Rattle.law_quorum.specs.Nodes as moves
 use Rattle.law_link.specs.Frames.{Act, AllMayHappen, Arrive, Commit, Emit, Lead, Lost, Network, NetworkStep, Snapshot, all_link_steps, all_daemon_moves, network_after, no_network}
 use Rattle.law_link.specs.Links.{Ask, Begin, Call, Clear, Execute, Give, GiveUp, Hear, Held, Keep, Make, Settle, Stray, Win, Write, append_of}
 
-abbrev first : Batch
-first = record { base = 0; count = 3; epoch = 1; bytes = [] }
+abbrev a : Batch
+a = record { base = 0; count = 3; epoch = 1; bytes = [] }
 
-abbrev second : Batch
-second = record { base = 3; count = 1; epoch = 1; bytes = [] }
+abbrev b : Batch
+b = record { base = 3; count = 1; epoch = 1; bytes = [] }
 
-abbrev third : Batch
-third = record { base = 4; count = 1; epoch = 1; bytes = [] }
+abbrev c : Batch
+c = record { base = 4; count = 1; epoch = 1; bytes = [] }
 
 abbrev one : Held
 one = record { epoch = 1; made = 1; start = 0 }
 
 abbrev call : Call
-call = record { epoch = 1; made = 1; group = first ∷ [] }
+call = record { epoch = 1; made = 1; group = a ∷ [] }
 
 module _ (make : List Batch → List ℕ) where
   abbrev image : StoredImage
-  image = record { offset = 3; bytes = make (first ∷ []) }
+  image = record { offset = 3; bytes = make (a ∷ []) }
 
   abbrev keep : Keep
   keep = record { before = 0; image = image }
 
   abbrev run : List NetworkStep
-  run = Act (Make (Campaign 0 7 1)) ∷ Act (Win 0 one) ∷ Act (Begin 0 one) ∷ Arrive 0 (Lead 1 0) [] ∷ Emit 0 first ∷ Act (Hear 0 first [])
-      ∷ Act (Ask 0 one (first ∷ []) []) ∷ Act (Execute 0 call) ∷ Act (Settle 0 one) ∷ Emit 0 second ∷ Arrive 0 (Commit 1 3) [] ∷ Act (GiveUp 0 1)
-      ∷ Emit 0 third ∷ Snapshot 0 image ∷ Arrive 0 (Lost 1) [] ∷ Act (Give 0 keep) ∷ Act (Clear 0 keep) ∷ []
+  run = Act (Make (Campaign 0 7 1)) ∷ Act (Win 0 one) ∷ Act (Begin 0 one) ∷ Arrive 0 (Lead 1 0) [] ∷ Emit 0 a ∷ Act (Hear 0 a [])
+      ∷ Act (Ask 0 one (a ∷ []) []) ∷ Act (Execute 0 call) ∷ Act (Settle 0 one) ∷ Emit 0 b ∷ Arrive 0 (Commit 1 3) [] ∷ Act (GiveUp 0 1)
+      ∷ Emit 0 c ∷ Snapshot 0 image ∷ Arrive 0 (Lost 1) [] ∷ Act (Give 0 keep) ∷ Act (Clear 0 keep) ∷ []
 
   may : AllMayHappen make no_network run
   may = (
@@ -49,11 +49,11 @@ module _ (make : List Batch → List ℕ) where
             (
               (refl, refl),
               (
-                record { holds = refl; leads = refl; none = refl; first = first; others = []; some = refl; next = refl },
+                record { holds = refl; leads = refl; none = refl; first = a; others = []; some = refl; next = refl },
                 (
                   inl refl,
                   (
-                    record { holds = refl; leads = refl; first = first; others = []; some = refl; seen = record { before = []; after = []; split = refl; begins = refl } },
+                    record { holds = refl; leads = refl; first = a; others = []; some = refl; seen = record { before = []; after = []; split = refl; begins = refl } },
                     (
                       record { leads = refl; base = refl; some = omega arith },
                       (
@@ -64,10 +64,10 @@ module _ (make : List Batch → List ℕ) where
                             record { leads = refl; base = refl; some = omega arith },
                             (
                               record {
-                                first = first ∷ [];
+                                first = a ∷ [];
                                 more = [];
                                 split = refl;
-                                right = λ gone none. (ap (λ (x : List Batch). behind 0 (x ++ first ∷ [])) none, ap (λ (x : List Batch). make (x ++ first ∷ [])) (sym none));
+                                right = λ gone none. (ap (λ (x : List Batch). behind 0 (x ++ a ∷ [])) none, ap (λ (x : List Batch). make (x ++ a ∷ [])) (sym none));
                               },
                               (refl, ((omega arith, inl refl), (inl refl, tt))),
                             ),
@@ -86,11 +86,11 @@ module _ (make : List Batch → List ℕ) where
   )
 
   -- what the daemon takes, and what it does between
-  taken_then : all_daemon_moves no_network run ≡ moves.Store (Campaign 0 7 1) ∷ moves.Lead 0 1 0 ∷ moves.Write 0 first ∷ moves.Store (append_of call) ∷ moves.Write 0 second
-      ∷ moves.Commit 0 1 3 ∷ moves.Write 0 third ∷ moves.Lost 0 1 ∷ moves.Store (Drop 0 image) ∷ []
+  taken_then : all_daemon_moves no_network run ≡ moves.Store (Campaign 0 7 1) ∷ moves.Lead 0 1 0 ∷ moves.Write 0 a ∷ moves.Store (append_of call) ∷ moves.Write 0 b
+      ∷ moves.Commit 0 1 3 ∷ moves.Write 0 c ∷ moves.Lost 0 1 ∷ moves.Store (Drop 0 image) ∷ []
   taken_then = refl
 
   -- for its link the third batch is of a leadership that is over
-  seen_then : all_link_steps no_network run ≡ Make (Campaign 0 7 1) ∷ Win 0 one ∷ Begin 0 one ∷ Write 0 first ∷ Hear 0 first [] ∷ Ask 0 one (first ∷ []) [] ∷ Execute 0 call ∷ Settle 0 one
-      ∷ Write 0 second ∷ GiveUp 0 1 ∷ Stray 0 third ∷ Give 0 keep ∷ Clear 0 keep ∷ []
+  seen_then : all_link_steps no_network run ≡ Make (Campaign 0 7 1) ∷ Win 0 one ∷ Begin 0 one ∷ Write 0 a ∷ Hear 0 a [] ∷ Ask 0 one (a ∷ []) [] ∷ Execute 0 call ∷ Settle 0 one
+      ∷ Write 0 b ∷ GiveUp 0 1 ∷ Stray 0 c ∷ Give 0 keep ∷ Clear 0 keep ∷ []
   seen_then = refl

@@ -148,38 +148,34 @@ module _ (guard : ℕ) where
   never_from whole s (Put other_guard other number bytes ∷ history) n (later, l) =
       never_from whole (store_after s (Put other_guard other number bytes)) history (never_put whole other s number bytes (guards s.point.keys other_guard other) n) l
 
+-- a part that is put, or is refused
+module _ (size : ℕ) (bytes_of : Whole → List ℕ) (guard : ℕ) (whole : Whole) (at : ℕ) (bytes : List ℕ) (is : bytes ≡ part size at (bytes_of whole)) where
+  abbrev after_put : PartStore → Bool → PartStore
+  after_put s t = cond t (record { point = point_after s.point Other; parts = put_part whole at bytes s.parts }) s
+
+  put_stands : (s : PartStore) (between later : List PartChange) (t : Bool) → guards s.point.keys guard whole ≡ t → AllByRecursion (IsPartOf size bytes_of) (between ++ later)
+      → AllByRecursion DropsLater (between ++ later) → GuardWasRead s.point.keys guard whole → guards (fold store_after (after_put s t) between).point.keys guard whole ≡ true
+      → Stands size bytes_of whole at (fold store_after (after_put s t) (between ++ later))
+  put_stands s between later true holds a l known then =
+      let here : put_part whole at bytes s.parts whole at ≡ Some bytes =
+      ap (λ (t : Bool). cond (t && nat_eq at at) (Some bytes) (s.parts whole at)) (is_itself whole) ∙ ap (λ (t : Bool). cond t (Some bytes) (s.parts whole at)) (itself at) in
+      stands_from size bytes_of whole at (after_put s true) (between ++ later) (inl (here ∙ ap (λ (x : List ℕ). Some x) is)) a l
+  put_stands s between later false fails a l known then =
+      let n = never_from guard whole s between (record { known = known; fails = fails }) (all_before DropsLater between later l) in
+      let x : true ≡ false = sym then ∙ n.fails in
+      absurd cc
+
 pub parts_stand : PartsStand
 parts_stand size bytes_of before between later guard whole at bytes a l known holds =
+    let put : PartChange = Put guard whole at bytes in
+    let first : PartStore = store before in
+    let parts = all_after (IsPartOf size bytes_of) before (put ∷ (between ++ later)) a in
+    let drops = all_after DropsLater before (put ∷ (between ++ later)) l in
+    let then : guards (fold store_after (store_after first put) between).point.keys guard whole ≡ true =
+    ap (λ (s : PartStore). guards s.point.keys guard whole) (sym (fold_append store_after no_store before (put ∷ between))) ∙ holds in
     subst (λ (s : PartStore). (s.parts whole at ≡ Some (part size at (bytes_of whole))) ⊎ (place_of_whole whole < offset_of_image s.point.keys.image))
-    (sym (fold_append store_after no_store before (put ∷ (between ++ later)))) (by (guards first.point.keys guard whole) refl)
-  where
-    abbrev put : PartChange
-    put = Put guard whole at bytes
-
-    abbrev first : PartStore
-    first = store before
-
-    behind_put : AllByRecursion (IsPartOf size bytes_of) (put ∷ (between ++ later))
-    behind_put = all_after (IsPartOf size bytes_of) before (put ∷ (between ++ later)) a
-
-    later_put : AllByRecursion DropsLater (put ∷ (between ++ later))
-    later_put = all_after DropsLater before (put ∷ (between ++ later)) l
-
-    abbrev with_part : PartStore
-    with_part = record { point = point_after first.point Other; parts = put_part whole at bytes first.parts }
-
-    by : (t : Bool) → guards first.point.keys guard whole ≡ t → Stands size bytes_of whole at (fold store_after (cond t with_part first) (between ++ later))
-    by true is = stands_from size bytes_of whole at with_part (between ++ later)
-        (inl (ap (λ (t : Bool). cond t (Some bytes) (first.parts whole at)) (ap (λ (t : Bool). t && nat_eq at at) (is_itself whole) ∙ itself at)
-        ∙ ap (λ (x : List ℕ). Some x) behind_put.0))
-        behind_put.1 later_put.1
-    by false is =
-        let n = never_from guard whole first between (record { known = known; fails = is }) (all_before DropsLater between later later_put.1) in
-        let there : store (before ++ put ∷ between) ≡ fold store_after (cond false with_part first) between =
-        fold_append store_after no_store before (put ∷ between) ∙ ap (λ (t : Bool). fold store_after (cond t with_part first) between) is in
-        let fails : guards (store (before ++ put ∷ between)).point.keys guard whole ≡ false = ap (λ (s : PartStore). guards s.point.keys guard whole) there ∙ n.fails in
-        let x : true ≡ false = sym holds ∙ fails in
-        absurd cc
+    (sym (fold_append store_after no_store before (put ∷ (between ++ later))))
+    (put_stands size bytes_of guard whole at bytes parts.0 first between later (guards first.point.keys guard whole) refl parts.1 drops.1 known then)
 
 -- ---- reads
 

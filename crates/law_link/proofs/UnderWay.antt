@@ -105,13 +105,13 @@ ended_before from end b [] base some whole =
     let ends : from ≡ end = whole in
     let t : nat_le (b.base + b.count) end ≡ false = grind (arith, nat_tests) in
     (ap (λ x. cond x (b ∷ []) []) t, ap (λ x. cond x [] (b ∷ [])) t)
-ended_before from end b (x ∷ own) base some whole = by (nat_le (x.base + x.count) end) whole
-  where
-    by : (t : Bool) → behind from (cond t (x ∷ ended_batches end own) []) ≡ end
+ended_before from end b (x ∷ own) base some whole =
+    (elim (nat_le (x.base + x.count) end) as (λ t. behind from (cond t (x ∷ ended_batches end own) []) ≡ end
         → (cond t (x ∷ ended_batches end (own ++ b ∷ [])) [] ≡ cond t (x ∷ ended_batches end own) [])
-            × (cond t (unended_batches end (own ++ b ∷ [])) (x ∷ own ++ b ∷ []) ≡ cond t (unended_batches end own) (x ∷ own) ++ b ∷ [])
-    by true ends = let r = ended_before (from + x.count) end b own base some ends in (ap (λ (xs : List Batch). x ∷ xs) r.0, r.1)
-    by false ends = (refl, refl)
+            × (cond t (unended_batches end (own ++ b ∷ [])) (x ∷ own ++ b ∷ []) ≡ cond t (unended_batches end own) (x ∷ own) ++ b ∷ [])) [
+      | true ↦ λ ends. (let r = ended_before (from + x.count) end b own base some ends in (ap (λ (xs : List Batch). x ∷ xs) r.0, r.1))
+      | false ↦ λ ends. (refl, refl)
+    ]) whole
 
 commit_written : (d : Node) (end : ℕ) (b : Batch) → b.base ≡ behind d.end d.own → 0 < b.count → behind d.end (ended_batches end d.own) ≡ end
     → committed (written d b) end ≡ written (committed d end) b
