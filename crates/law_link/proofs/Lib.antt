@@ -6,3 +6,4 @@ pub mod StepLaws
 pub mod UnderWay
 pub mod LateFrames
 pub mod PartsStand
+pub mod Welcome

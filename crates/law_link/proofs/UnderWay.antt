@@ -76,7 +76,7 @@ once_more e (x ∷ es) (first, o) new = (
   once_more e es o (λ has. new (inr has)),
 )
 
-begun_append : (frames : List Frame) (frame : Frame) → epochs_begun (frames ++ frame ∷ []) ≡ epochs_begun frames ++ epoch_begun frame
+pub begun_append : (frames : List Frame) (frame : Frame) → epochs_begun (frames ++ frame ∷ []) ≡ epochs_begun frames ++ epoch_begun frame
 begun_append [] frame = append-nil (epoch_begun frame)
 begun_append (f ∷ frames) frame =
     ap (λ (es : List ℕ). epoch_begun f ++ es) (begun_append frames frame) ∙ sym (append_assoc (epoch_begun f) (epochs_begun frames) (epoch_begun frame))
@@ -90,7 +90,7 @@ led_append leads frames frame =
 abbrev pub written : Node → Batch → Node
 written d b = record d { own = d.own ++ b ∷ [] }
 
-ended_joined : (end : ℕ) (bs : List Batch) → ended_batches end bs ++ unended_batches end bs ≡ bs
+pub ended_joined : (end : ℕ) (bs : List Batch) → ended_batches end bs ++ unended_batches end bs ≡ bs
 ended_joined end [] = refl
 ended_joined end (b ∷ bs) = elim (nat_le (b.base + b.count) end) as (λ t. cond t (b ∷ ended_batches end bs) [] ++ cond t (unended_batches end bs) (b ∷ bs) ≡ b ∷ bs) [
   | true ↦ ap (λ (xs : List Batch). b ∷ xs) (ended_joined end bs)
