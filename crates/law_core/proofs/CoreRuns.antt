@@ -7,7 +7,7 @@ use Rattle.law_quorum.specs.Nodes.{Node}
 use Rattle.law_quorum.specs.Nodes as nodes
 use Rattle.law_link.specs.Frames.{Act, AllMayHappen, Arrive, Emit, MayHappen, Network, NetworkStep, Snapshot, emitted, leads_epoch, network_after, no_network}
 use Rattle.law_link.specs.Links.{Clear, Execute, Link, Make, Web, idle, stepped}
-use Rattle.law_link.proofs.LateFrames.{IsNetwork, at_node, first_network, network_right}
+use Rattle.law_link.proofs.LateFrames.{IsNetwork, at_node, first_network, network_right, networks_right}
 use Rattle.law_core.specs.Core.{CallAppend, CallDrop, Deed, Elected, HandBatch, HandCommit, HandImage, HandLead, HandLost, Hear, Hold, Leading, LinkCore, Pass, Resign, Role, Serve, Standby, core_step}
 use Rattle.law_core.specs.Runs.{AllMayCome, Comes, CoreRun, CoresKeepTheRules, DeedsAreHanded, Event, Happens, IsOfNoLink, MayCome, acts, all_steps, behind_first, no_run, run_after, step_of, steps_of}
 use Rattle.law_core.proofs.CoreSteps.{Does, IsCore, IsRole, came_right}
@@ -80,10 +80,6 @@ module _ (make : List Batch → List ℕ) where
     pub network : IsNetwork make r.network
     pub cores : (k : ℕ) → IsCore (r.cores k) (r.network.web.cluster.nodes k) (r.network.web.links k)
 
-  networks : (n : Network) (steps : List NetworkStep) → IsNetwork make n → AllMayHappen make n steps → IsNetwork make (fold network_after n steps)
-  networks n [] h a = h
-  networks n (step ∷ steps) h (here, a) = networks (network_after n step) steps (network_right make n step h here).2 a
-
   happen_both : (n : Network) (some more : List NetworkStep) → AllMayHappen make n some → AllMayHappen make (fold network_after n some) more → AllMayHappen make n (some ++ more)
   happen_both n [] more a b = b
   happen_both n (step ∷ some) more (here, a) b = (here, happen_both (network_after n step) some more a b)
@@ -118,7 +114,7 @@ module _ (make : List Batch → List ℕ) where
         let rest = behind_first (r.network.web.links k).pipe in
         let out = core_step (r.cores k) came in
         let d : Does make k rest r.network out.1 out.0 = came_right make k r.network h.network (r.cores k) came (h.cores k) right in
-        (d.may, record { network = networks r.network (acts k rest out.1) h.network d.may; cores = both_cores k rest out.0 out.1 d })
+        (d.may, record { network = networks_right make r.network (acts k rest out.1) h.network d.may; cores = both_cores k rest out.0 out.1 d })
       where
         both_cores : (k : ℕ) (rest : List Batch) (c : LinkCore) (deeds : List Deed) → Does make k rest r.network deeds c → (j : ℕ)
             → IsCore (cond (nat_eq k j) c (r.cores j)) ((fold network_after r.network (acts k rest deeds)).web.cluster.nodes j) ((fold network_after r.network (acts k rest deeds)).web.links j)

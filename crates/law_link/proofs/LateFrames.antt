@@ -339,7 +339,7 @@ module _ (make : List Batch → List ℕ) where
   same_emit n true k b = refl
   same_emit n false k b = refl
 
-  same_point : (n : Network) (step : NetworkStep) → (fold moved (daemons_of n) (daemon_moves n step)).point ≡ (fold stepped n.web (as_seen n step)).cluster.point
+  pub same_point : (n : Network) (step : NetworkStep) → (fold moved (daemons_of n) (daemon_moves n step)).point ≡ (fold stepped n.web (as_seen n step)).cluster.point
   same_point n (Act step) = same_act n step
   same_point n (Arrive k frame rest) = same_arrive n k frame
   same_point n (Emit k b) = same_emit n (leads_epoch (n.web.cluster.nodes k).leads b.epoch) k b
@@ -362,6 +362,10 @@ module _ (make : List Batch → List ℕ) where
         allowed_both make (daemons_of n) (daemon_moves n step) (all_daemon_moves then steps) r.0 daemons,
         possible_both n.web (as_seen n step) (all_link_steps then steps) r.1 rest.1,
       )
+
+  pub networks_right : (n : Network) (steps : List NetworkStep) → IsNetwork n → AllMayHappen make n steps → IsNetwork (fold network_after n steps)
+  networks_right n [] h a = h
+  networks_right n (step ∷ steps) h (here, a) = networks_right (network_after n step) steps (network_right n step h here).2 a
 
   pub first_network : IsNetwork no_network
   first_network = record {

@@ -7,3 +7,4 @@ pub mod UnderWay
 pub mod LateFrames
 pub mod PartsStand
 pub mod Welcome
+pub mod Committed
