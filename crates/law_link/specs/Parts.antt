@@ -45,7 +45,7 @@ put_part whole at bytes parts other number = cond (is_same_whole whole other && 
 -- an image drops the parts of the batches for which it stands, and of earlier images
 abbrev pub parts_after : Change → (Whole → ℕ → Option (List ℕ)) → Whole → ℕ → Option (List ℕ)
 parts_after (Drop before image) parts whole at = cond (nat_lt (place_of_whole whole) image.offset) None (parts whole at)
-parts_after other parts whole at = parts whole at
+parts_after change parts whole at = parts whole at
 
 abbrev pub store_after : PartStore → PartChange → PartStore
 store_after s (Log change) = record { point = point_after s.point change; parts = cond (compares s.point.keys change) (parts_after change s.parts) s.parts }
