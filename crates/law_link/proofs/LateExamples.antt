@@ -1,11 +1,10 @@
 -- A run with frames under way: node 0 writes a batch while a commit is under way to it, and one while a Lost is; the image that it makes
 -- then reaches its link behind that, and takes the place of the first batch.
-use Rattle.std.proofs.Common.{◌≡◌, ◌∙◌, sym, ℕ, List, [], ◌∷◌, ◌++◌, refl, ap, inl, arith}
-use Rattle.std.specs.Prelude.{fold, None, Some}
+use Rattle.std.proofs.Common.{◌≡◌, sym, ℕ, List, [], ◌∷◌, ◌++◌, refl, ap, inl, arith}
 use Rattle.law_quorum.specs.Batches.{Batch, StoredImage, behind}
 use Rattle.law_quorum.specs.Changes.{Campaign, Drop}
 use Rattle.law_quorum.specs.Nodes as moves
-use Rattle.law_link.specs.Frames.{Act, AllMayHappen, Arrive, Commit, Emit, Lead, Lost, Network, NetworkStep, Snapshot, all_link_steps, all_daemon_moves, network_after, no_network}
+use Rattle.law_link.specs.Frames.{Act, AllMayHappen, Arrive, Commit, Emit, Lead, Lost, NetworkStep, Snapshot, all_link_steps, all_daemon_moves, no_network}
 use Rattle.law_link.specs.Links.{Ask, Begin, Call, Clear, Execute, Give, GiveUp, Hear, Held, Keep, Make, Settle, Stray, Win, Write, append_of}
 
 abbrev a : Batch

@@ -1,5 +1,5 @@
 -- Links, daemons, and what is under way between them: each step keeps all of it right.
-use Rattle.std.proofs.Common.{◌≡◌, ◌∙◌, sym, ℕ, ◌+◌, ◌<◌, ◌≤◌, Bool, true, false, cond, List, [], ◌∷◌, ◌++◌, refl, ap, subst, arith, inl, inr, ◌⊎◌}
+use Rattle.std.proofs.Common.{◌≡◌, ◌∙◌, sym, ℕ, Bool, true, false, cond, List, [], ◌∷◌, ◌++◌, refl, ap, subst, arith, inl, inr}
 use Rattle.std.proofs.lemmas.Bool.{eqb-true}
 use Rattle.std.proofs.lemmas.Bool.Decides.{nat_tests}
 use Rattle.std.proofs.lemmas.List.{append_assoc}
@@ -7,14 +7,14 @@ use Rattle.std.specs.Prelude.{IsSome, Option, None, Some, nat_eq, fold, flat_map
 use Rattle.std.specs.List.{AllByRecursion}
 use Rattle.law_quorum.specs.Batches.{Batch, StoredImage, ImageStandsFor, behind}
 use Rattle.law_quorum.specs.Changes.{Change, Drop}
-use Rattle.law_quorum.specs.History.{IsSent, Leadership, Point, point_after}
+use Rattle.law_quorum.specs.History.{IsSent, Point, point_after}
 use Rattle.law_quorum.specs.NodeLaws.{IsFedNode}
 use Rattle.law_quorum.specs.Nodes.{AreAllowed, Cluster, IsAllowedMove, Node, after_loss, at_first, committed, fed, loaded, moved, new_node, set_node, told_to_lead, with_node}
 use Rattle.law_quorum.specs.Nodes as moves
 use Rattle.law_quorum.proofs.ReadKeys.{images_stand_later}
 use Rattle.law_quorum.proofs.WholeHistories.{grows_from}
 use Rattle.law_quorum.proofs.FedNodes.{IsCluster, first_cluster, moves_on}
-use Rattle.law_link.specs.Links.{ArePossible, Call, Has, Held, IsPossible, Keep, Link, LinkStep, MayStray, MayWrite, Web, append_of, handed, idle, set_link, stepped}
+use Rattle.law_link.specs.Links.{ArePossible, Has, Held, IsPossible, Link, LinkStep, MayStray, MayWrite, Web, append_of, handed, idle, set_link, stepped}
 use Rattle.law_link.specs.Links.{Execute, Clear, Make, Win, Read, Take, Begin, Write, Ask, Settle, Give, GiveUp, LetGo, Renew, Stray, Hear, Pass}
 use Rattle.law_link.specs.Frames.{AllMayHappen, Act, Arrive, Commit, Emit, Feed, Frame, Lead, Load, Lost, MayAct, MayHappen, MaySnapshot, Network, NetworkStep, Snapshot, all_link_steps, all_daemon_moves, at_once, daemons_of, emitted, leads_epoch, move_of, network_after, no_network, as_seen, set_at, daemon_moves, with_frame}
 use Rattle.law_link.specs.LinkLaws.{LateFramesAreRight}
@@ -258,15 +258,14 @@ module _ (make : List Batch → List ℕ) where
             leads = leads;
             base = m.base ∙ sym (tip_stays make p k b.epoch (n.daemons k) (n.frames k) (view k) way_led.reaches m.leads never leads);
             some = m.some;
-          } in
-          (
+          } in (
             a,
             record {
               web = (step_right make n.web (Write k b) h.web a).1;
               daemons = (moves_on make (daemons_of n) (moves.Write k b) daemons_right emit_allowed.0).nodes;
               way = at_node k
                   (λ j t. WayOf j (cond t (written (n.daemons k) b) (n.daemons j)) (n.frames j) (cond t (written (view k) b) (view j))
-                      (cond t (record (link k) { pipe = (link k).pipe ++ b ∷ [] }) (link j)))
+                  (cond t (record (link k) { pipe = (link k).pipe ++ b ∷ [] }) (link j)))
                   (record {
                     reaches = write_reaches make p k b.epoch b m.some (n.daemons k) (n.frames k) (view k) way_led.reaches m.leads never m.base leads;
                     won_all = way_led.won_all;
@@ -278,8 +277,7 @@ module _ (make : List Batch → List ℕ) where
           )
       emit_seen false is =
           let other = led_false (view k).leads b.epoch is in
-          let a : MayStray n.web k b = record { led = won_led.0; over = stray_over other } in
-          (
+          let a : MayStray n.web k b = record { led = won_led.0; over = stray_over other } in (
             a,
             record {
               web = (step_right make n.web (Stray k b) h.web a).1;
@@ -357,8 +355,7 @@ module _ (make : List Batch → List ℕ) where
       let then = network_after n step in
       let rest = all_right then steps r.2 a in
       let daemons : AreAllowed make (fold moved (daemons_of n) (daemon_moves n step)) (all_daemon_moves then steps) =
-      subst (λ (q : Point). AreAllowed make (record { point = q; nodes = then.daemons }) (all_daemon_moves then steps)) (sym (same_point n step)) rest.0 in
-      (
+      subst (λ (q : Point). AreAllowed make (record { point = q; nodes = then.daemons }) (all_daemon_moves then steps)) (sym (same_point n step)) rest.0 in (
         allowed_both make (daemons_of n) (daemon_moves n step) (all_daemon_moves then steps) r.0 daemons,
         possible_both n.web (as_seen n step) (all_link_steps then steps) r.1 rest.1,
       )

@@ -1,16 +1,16 @@
 -- Parts are those of their whole, and stand as long as nothing stands for them.
-use Rattle.std.proofs.Common.{◌≡◌, ◌∙◌, sym, ℕ, zero, suc, ◌+◌, ◌-◌, ◌<◌, ◌≤◌, Bool, true, false, cond, List, [], ◌∷◌, ◌++◌, refl, ap, subst, arith, inl, inr, ◌⊎◌}
+use Rattle.std.proofs.Common.{◌≡◌, ◌∙◌, sym, ℕ, suc, ◌+◌, ◌-◌, ◌<◌, ◌≤◌, Bool, true, false, cond, List, [], ◌∷◌, ◌++◌, refl, ap, subst, arith, inl, inr, ◌⊎◌}
 use Rattle.std.proofs.lemmas.Bool.{eqb-true}
 use Rattle.std.proofs.lemmas.Bool.Decides.{nat_tests}
 use Rattle.std.proofs.lemmas.List.{length-append, length-drop, nil_from_length, take-append-drop}
 use Rattle.std.specs.Prelude.{Option, None, Some, ◌&&◌, nat_eq, nat_lt, length, take, drop, fold}
 use Rattle.std.specs.List.{AllByRecursion}
 use Rattle.std.specs.Option.{unwrap_or}
-use Rattle.law_quorum.specs.Batches.{StoredImage, offset_of_image}
-use Rattle.law_quorum.specs.Changes.{Append, Campaign, Change, Drop, Expire, Other, compares, leads_by}
+use Rattle.law_quorum.specs.Batches.{offset_of_image}
+use Rattle.law_quorum.specs.Changes.{Append, Campaign, Change, Drop, Expire, Other, compares}
 use Rattle.law_quorum.specs.History.{Point, point_after}
 use Rattle.law_quorum.proofs.KeptLog.{both, taken}
-use Rattle.law_quorum.proofs.LeadershipOrder.{IsOver, over_stays}
+use Rattle.law_quorum.proofs.LeadershipOrder.{over_stays}
 use Rattle.law_quorum.proofs.Places.{all_after}
 use Rattle.law_quorum.proofs.WholeHistories.{fold_append}
 use Rattle.law_link.specs.Parts.{GuardWasRead, DropsLater, IsPartOf, Log, OfBatch, OfImage, PartChange, PartStore, PartsMakeTheWhole, PartsStand, Put, Whole, behind_parts, guards, is_same_whole, no_store, part, parts_after, place_of_whole, put_part, read_parts, store, store_after}
@@ -189,22 +189,26 @@ module _ (size : ℕ) (some : 0 < size) (bytes_of : Whole → List ℕ) (whole :
       → (length (unwrap_or o [] ++ more) ≤ length (rest at)) × (length (unwrap_or o [] ++ more) ≡ length (rest at) → unwrap_or o [] ++ more ≡ rest at)
   first_part at None more r (low, whole_more) =
       let dropped : length (drop size (rest at)) ≡ length (rest at) - size = length-drop size (rest at) in
-      let high : length more ≤ length (drop size (rest at)) = low in
-      (omega arith, (λ e.
-          let equal : length more ≡ length (rest at) = e in
-          let none : length (rest at) ≡ 0 = omega arith in
-          nil_from_length more (equal ∙ none) ∙ sym (nil_from_length (rest at) none)))
+      let high : length more ≤ length (drop size (rest at)) = low in (
+        omega arith,
+        (λ e.
+            let equal : length more ≡ length (rest at) = e in
+            let none : length (rest at) ≡ 0 = omega arith in
+            nil_from_length more (equal ∙ none) ∙ sym (nil_from_length (rest at) none)),
+      )
   first_part at (Some b) more r (low, whole_more) =
       let is : b ≡ take size (rest at) = taken_part r in
       let joined : length (take size (rest at)) + length (drop size (rest at)) ≡ length (rest at) =
       sym (length-append (take size (rest at)) (drop size (rest at))) ∙ ap (λ (x : List ℕ). length x) (take-append-drop size (rest at)) in
       let sum : length (b ++ more) ≡ length b + length more = length-append b more in
       let size_is : length b ≡ length (take size (rest at)) = ap (λ (x : List ℕ). length x) is in
-      let high : length more ≤ length (drop size (rest at)) = low in
-      (omega arith, (λ e.
-          let equal : length (b ++ more) ≡ length (rest at) = e in
-          let same : length more ≡ length (drop size (rest at)) = omega arith in
-          ap (λ (x : List ℕ). x ++ more) is ∙ (ap (λ (x : List ℕ). take size (rest at) ++ x) (whole_more same) ∙ take-append-drop size (rest at))))
+      let high : length more ≤ length (drop size (rest at)) = low in (
+        omega arith,
+        (λ e.
+            let equal : length (b ++ more) ≡ length (rest at) = e in
+            let same : length more ≡ length (drop size (rest at)) = omega arith in
+            ap (λ (x : List ℕ). x ++ more) is ∙ (ap (λ (x : List ℕ). take size (rest at) ++ x) (whole_more same) ∙ take-append-drop size (rest at))),
+      )
     where
       taken_part : (Some b ≡ None) ⊎ (Some b ≡ Some (take size (rest at))) → b ≡ take size (rest at)
       taken_part h = elim h [

@@ -1,11 +1,11 @@
 -- One daemon, and what is under way to it.
-use Rattle.std.proofs.Common.{◌≡◌, ◌∙◌, sym, ℕ, ◌+◌, ◌<◌, ◌≤◌, Bool, true, false, cond, List, [], ◌∷◌, ◌++◌, refl, ap, subst, arith, inl, inr, ◌⊎◌}
+use Rattle.std.proofs.Common.{◌≡◌, ◌∙◌, sym, ℕ, ◌+◌, ◌<◌, true, false, cond, List, [], ◌∷◌, ◌++◌, refl, ap, subst, arith, inl, inr, ◌⊎◌}
 use Rattle.std.proofs.lemmas.Bool.Decides.{nat_tests}
 use Rattle.std.proofs.lemmas.List.{append_assoc, append-nil}
 use Rattle.std.specs.Prelude.{Option, None, Some, nat_le, option_to_list}
 use Rattle.std.specs.Option.{unwrap_or}
 use Rattle.std.specs.List.{AllByRecursion}
-use Rattle.law_quorum.specs.Batches.{Batch, StoredImage, BatchStandsAt, ImageStandsFor, behind}
+use Rattle.law_quorum.specs.Batches.{Batch, BatchStandsAt, ImageStandsFor, behind}
 use Rattle.law_quorum.specs.Changes.{Change}
 use Rattle.law_quorum.specs.History.{Point, point_after}
 use Rattle.law_quorum.specs.Nodes.{IsAllowedMove, Led, MayCommit, Node, after_loss, committed, ended_batches, fed, loaded, told_to_lead, unended_batches}
@@ -107,8 +107,8 @@ ended_before from end b [] base some whole =
     (ap (λ x. cond x (b ∷ []) []) t, ap (λ x. cond x [] (b ∷ [])) t)
 ended_before from end b (x ∷ own) base some whole =
     (elim (nat_le (x.base + x.count) end) as (λ t. behind from (cond t (x ∷ ended_batches end own) []) ≡ end
-        → (cond t (x ∷ ended_batches end (own ++ b ∷ [])) [] ≡ cond t (x ∷ ended_batches end own) [])
-            × (cond t (unended_batches end (own ++ b ∷ [])) (x ∷ own ++ b ∷ []) ≡ cond t (unended_batches end own) (x ∷ own) ++ b ∷ [])) [
+    → (cond t (x ∷ ended_batches end (own ++ b ∷ [])) [] ≡ cond t (x ∷ ended_batches end own) [])
+    × (cond t (unended_batches end (own ++ b ∷ [])) (x ∷ own ++ b ∷ []) ≡ cond t (unended_batches end own) (x ∷ own) ++ b ∷ [])) [
       | true ↦ λ ends. (let r = ended_before (from + x.count) end b own base some ends in (ap (λ (xs : List Batch). x ∷ xs) r.0, r.1))
       | false ↦ λ ends. (refl, refl)
     ]) whole

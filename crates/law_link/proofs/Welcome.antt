@@ -1,5 +1,5 @@
 -- What arrives is welcome.
-use Rattle.std.proofs.Common.{◌≡◌, ◌∙◌, sym, ℕ, suc, ◌+◌, ◌<◌, ◌≤◌, Bool, true, false, cond, List, [], ◌∷◌, ◌++◌, refl, ap, subst, arith, inl, inr, ◌⊎◌}
+use Rattle.std.proofs.Common.{◌≡◌, ◌∙◌, sym, ℕ, suc, ◌<◌, ◌≤◌, Bool, true, false, cond, List, [], ◌∷◌, ◌++◌, refl, ap, subst, arith}
 use Rattle.std.proofs.lemmas.List.{append-nil}
 use Rattle.std.specs.Prelude.{Option, None, Some, nat_eq, option_to_list}
 use Rattle.std.specs.List.{AllByRecursion}
@@ -8,7 +8,7 @@ use Rattle.law_quorum.specs.History.{Point}
 use Rattle.law_quorum.specs.Nodes.{Node, ended_batches, new_node, unended_batches}
 use Rattle.law_quorum.proofs.Places.{all_after, meet_after}
 use Rattle.law_link.specs.Frames.{Act, AllMayHappen, Arrive, Commit, Emit, Feed, Frame, Lead, Load, Lost, MayAct, MayHappen, Network, NetworkStep, Snapshot, emitted, leads_epoch, network_after, no_network}
-use Rattle.law_link.specs.Links.{Ask, Begin, Clear, Execute, Give, GiveUp, Has, Hear, Held, LetGo, Link, LinkStep, Make, Pass, Read, Renew, Settle, Stray, Take, Web, Win, Write, idle, stepped}
+use Rattle.law_link.specs.Links.{Ask, Begin, Clear, Execute, Give, GiveUp, Has, Hear, Held, LetGo, Link, LinkStep, Make, Pass, Read, Renew, Settle, Stray, Take, Win, Write, idle, stepped}
 use Rattle.law_link.specs.Refusals.{AllRise, AllWelcome, IsWelcome, IsWelcomeStep, NothingIsRefused, Rises, least_after, leasts_after}
 use Rattle.law_link.proofs.LinkSteps.{all_map, has_all, held_is}
 use Rattle.law_link.proofs.UnderWay.{IsUnderWay, MayArrive, after_frame, begun_append, ended_joined, epoch_begun, epochs_begun, epochs_led, none_leads}
@@ -143,7 +143,7 @@ module _ (make : List Batch → List ℕ) where
         linked k (idle (l k)) (record { low = (all k).low; rise = (all k).rise; next = λ standby e is. none_held e is }) j
     acts (Renew k) a r j = at_node k
         (λ j t. IsAscent (cond t 0 (leasts j)) (cond t [] (n.frames j)) (cond t new_node (v j))
-            (cond t (record (idle (l k)) { pipe = [] }) (l j)).won (cond t (record (idle (l k)) { pipe = [] }) (l j)).held)
+        (cond t (record (idle (l k)) { pipe = [] }) (l j)).won (cond t (record (idle (l k)) { pipe = [] }) (l j)).held)
         (record { low = λ x below. omega arith; rise = tt; next = λ standby e is. none_held e is }) all j
 
     emits : (k : ℕ) (b : Batch) (t : Bool) (j : ℕ)
