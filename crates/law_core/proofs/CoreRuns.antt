@@ -1,11 +1,11 @@
 -- Whole runs of cores.
-use Rattle.std.proofs.Common.{◌≡◌, ◌∙◌, sym, ℕ, Bool, true, false, cond, List, [], ◌∷◌, ◌++◌, refl, ap, subst}
+use Rattle.std.proofs.Common.{◌≡◌, sym, ℕ, Bool, true, false, cond, List, [], ◌∷◌, ◌++◌, refl, ap, subst}
 use Rattle.std.proofs.lemmas.Bool.{eqb-true}
 use Rattle.std.specs.Prelude.{Some, nat_eq, fold}
 use Rattle.law_quorum.specs.Batches.{Batch, behind}
 use Rattle.law_quorum.specs.Nodes.{Node}
 use Rattle.law_quorum.specs.Nodes as nodes
-use Rattle.law_link.specs.Frames.{Act, AllMayHappen, Arrive, Emit, MayHappen, Network, NetworkStep, Snapshot, emitted, leads_epoch, network_after, no_network}
+use Rattle.law_link.specs.Frames.{Act, AllMayHappen, Arrive, Emit, Network, NetworkStep, Snapshot, emitted, leads_epoch, network_after}
 use Rattle.law_link.specs.Links.{Clear, Execute, Link, Make, Web, idle, stepped}
 use Rattle.law_link.proofs.LateFrames.{IsNetwork, at_node, first_network, network_right, networks_right}
 use Rattle.law_core.specs.Core.{CallAppend, CallDrop, Deed, Elected, HandBatch, HandCommit, HandImage, HandLead, HandLost, Hear, Hold, Leading, LinkCore, Pass, Resign, Role, Serve, Standby, core_step}
@@ -89,7 +89,7 @@ module _ (make : List Batch → List ℕ) where
         → IsCore (r.cores j) ((stepped r.network.web (emitted t k b)).cluster.nodes j) ((stepped r.network.web (emitted t k b)).links j)
     cores_of k b true = at_node k
         (λ j t. IsCore (r.cores j) (cond t (record (r.network.web.cluster.nodes k) { own = (r.network.web.cluster.nodes k).own ++ b ∷ [] }) (r.network.web.cluster.nodes j))
-            (cond t (record (r.network.web.links k) { pipe = (r.network.web.links k).pipe ++ b ∷ [] }) (r.network.web.links j)))
+        (cond t (record (r.network.web.links k) { pipe = (r.network.web.links k).pipe ++ b ∷ [] }) (r.network.web.links j)))
         (with_own (r.cores k) (r.network.web.cluster.nodes k) (r.network.web.links k) (h.cores k) ((r.network.web.cluster.nodes k).own ++ b ∷ []) ((r.network.web.links k).pipe ++ b ∷ []))
         h.cores
     cores_of k b false = at_node k

@@ -2,7 +2,7 @@
 use Rattle.std.proofs.Common.{◌≡◌, ◌∙◌, sym, ℕ, zero, suc, ◌+◌, ◌-◌, ◌<◌, ◌≤◌, Bool, true, false, cond, List, [], ◌∷◌, ◌++◌, refl, ap, subst, arith, inl, inr, ◌⊎◌}
 use Rattle.std.proofs.lemmas.Bool.{eqb-true}
 use Rattle.std.proofs.lemmas.Bool.Decides.{nat_tests}
-use Rattle.std.specs.Prelude.{Option, None, Some, ◌&&◌, nat_eq, nat_le, nat_lt, length, map, fold}
+use Rattle.std.specs.Prelude.{None, Some, ◌&&◌, nat_eq, nat_le, nat_lt, length, fold}
 use Rattle.law_quorum.specs.Batches.{Batch, StoredImage, BatchStandsAt, ImageStandsFor, Meet, behind}
 use Rattle.law_quorum.specs.Changes.{base_of_first}
 use Rattle.law_quorum.specs.Nodes.{Node}
@@ -12,7 +12,7 @@ use Rattle.law_quorum.proofs.Places.{meet_before}
 use Rattle.law_link.specs.Frames.{Act, AllMayHappen, Commit, Feed, Frame, Lead, Load, Lost, MayAct, Network, network_after}
 use Rattle.law_link.specs.Links.{Call, Has, Held, Link, TookLeadership, idle}
 use Rattle.law_link.proofs.FoundLeaderships.{one_key}
-use Rattle.law_link.proofs.LateFrames.{IsNetwork, network_right}
+use Rattle.law_link.proofs.LateFrames.{IsNetwork}
 use Rattle.law_link.proofs.LinkSteps.{CallRight, Runs, has_all, runs_at}
 use Rattle.law_link.proofs.UnderWay.{none_leads, same_epoch}
 use Rattle.law_core.specs.Core.{AppendGroup, Appended, CallAppend, CallDrop, Came, Deed, Elected, Found, FoundImage, HandBatch, HandCommit, HandImage, HandLead, HandLost, Hear, Hold, Imaged, Joined, Leading, LinkCore, MOST, Over, Pass, ROOM, Resign, Role, Serve, Standby, Stood, Won, after_asking, after_lead_when_fed, append_group, append_group_behind, asking, becomes, core_step, frames_with, leading, on_appended, on_batch, on_found, on_found_image, on_stood, on_won, resigning, with_first}
@@ -40,7 +40,7 @@ joined_behind most room [] = refl
 joined_behind zero room (b ∷ bs) = refl
 joined_behind (suc most) room (b ∷ bs) =
     elim (nat_le (length b.bytes) room) as (λ t. (cond t (with_first b (append_group_behind most (room - length b.bytes) bs)) ([], b ∷ bs)).0
-        ++ (cond t (with_first b (append_group_behind most (room - length b.bytes) bs)) ([], b ∷ bs)).1 ≡ b ∷ bs) [
+    ++ (cond t (with_first b (append_group_behind most (room - length b.bytes) bs)) ([], b ∷ bs)).1 ≡ b ∷ bs) [
       | true ↦ ap (λ (xs : List Batch). b ∷ xs) (joined_behind most (room - length b.bytes) bs)
       | false ↦ refl
     ]
@@ -129,7 +129,7 @@ module _ (make : List Batch → List ℕ) (k : ℕ) (r : List Batch) where
           next = is.role.3 ∙ sym (joined b bs);
         })
         (there k (λ t. IsCore (record { fed = fed; role = Leading e g.0 g.1 }) v
-            (cond t (record l { asked = g.0; waits = g.1; calls = record { epoch = e.epoch; made = e.made; group = g.0 } ∷ l.calls }) l))
+        (cond t (record l { asked = g.0; waits = g.1; calls = record { epoch = e.epoch; made = e.made; group = g.0 } ∷ l.calls }) l))
         (record { fed = is.fed; role = (is.role.0, is.role.1, refl, refl) }))
 
     resign_does : (fed : ℕ) (e : Held) → v.leads ≡ None → v.end ≡ fed → Does n (Resign e ∷ []) (record { fed = fed; role = Standby })
@@ -332,7 +332,7 @@ module _ (make : List Batch → List ℕ) (k : ℕ) (r : List Batch) where
           (record { holds = is.role.1; leads = is.role.0; first = first; others = asked; some = is.role.2; seen = seen })
           (ask_does (after n (HandCommit e (behind fed (first ∷ asked)))) (behind fed (first ∷ asked)) e waits
           (there k (λ t. IsCore (record { fed = behind fed (first ∷ asked); role = Leading e [] waits })
-              (cond t (nodes.committed w (behind w.end m.asked)) w) (cond t (record m { asked = [] }) m))
+          (cond t (nodes.committed w (behind w.end m.asked)) w) (cond t (record m { asked = [] }) m))
           (record { fed = end; role = (is.role.0, is.role.1, refl, is.role.3) })))
 
       stood_does : (c : LinkCore) (made base : ℕ) → IsCore c w m → WasSeen n.web.cluster.point.log m made base
@@ -347,8 +347,8 @@ module _ (make : List Batch → List ℕ) (k : ℕ) (r : List Batch) where
             where
               at : (t : Bool) → nat_eq e.made made && nat_eq first.base base ≡ t
                   → Does n (cond t (becomes (behind c.fed (first ∷ asked)) (after_asking e waits) (HandCommit e (behind c.fed (first ∷ asked)) ∷ asking e waits))
-                      (becomes c.fed (Leading e (first ∷ asked) waits) [])).1 (cond t (becomes (behind c.fed (first ∷ asked)) (after_asking e waits) (HandCommit e (behind c.fed (first ∷ asked)) ∷ asking e waits))
-                      (becomes c.fed (Leading e (first ∷ asked) waits) [])).0
+                  (becomes c.fed (Leading e (first ∷ asked) waits) [])).1 (cond t (becomes (behind c.fed (first ∷ asked)) (after_asking e waits) (HandCommit e (behind c.fed (first ∷ asked)) ∷ asking e waits))
+                  (becomes c.fed (Leading e (first ∷ asked) waits) [])).0
               at false y = none n (record { fed = c.fed; role = Leading e (first ∷ asked) waits }) (record { fed = is.fed; role = x })
               at true y =
                   let t = both (nat_eq e.made made) (nat_eq first.base base) y in

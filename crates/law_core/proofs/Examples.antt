@@ -3,7 +3,7 @@
 use Rattle.std.proofs.Common.{◌≡◌, ℕ, List, [], ◌∷◌, refl, inl, arith}
 use Rattle.law_quorum.specs.Batches.{Batch}
 use Rattle.law_quorum.specs.Changes.{Campaign}
-use Rattle.law_link.specs.Frames.{Act, Arrive, Emit, Lead, NetworkStep}
+use Rattle.law_link.specs.Frames.{Act, Arrive, Emit, Lead}
 use Rattle.law_link.specs.Links.{Ask, Begin, Call, Execute, GiveUp, Hear, Held, LetGo, Make, Settle, Win}
 use Rattle.law_core.specs.Core.{Appended, Over, Stood, Won}
 use Rattle.law_core.specs.Runs.{AllMayCome, Comes, Event, Happens, all_steps, no_run}

@@ -1,5 +1,5 @@
 -- The core of a link: what it makes of what comes from its daemon and from the store.
-use Rattle.std.specs.Prelude.{ℕ, zero, suc, ◌+◌, ◌-◌, Bool, cond, ◌&&◌, List, [], ◌∷◌, ◌++◌, length, nat_eq, nat_le, nat_lt}
+use Rattle.std.specs.Prelude.{ℕ, zero, suc, ◌+◌, ◌-◌, cond, ◌&&◌, List, [], ◌∷◌, ◌++◌, length, nat_eq, nat_le, nat_lt}
 use Rattle.law_quorum.specs.Batches.{Batch, StoredImage, behind}
 use Rattle.law_link.specs.Frames.{Commit, Feed, Frame, Lead, Load, Lost}
 use Rattle.law_link.specs.Links.{Held}
