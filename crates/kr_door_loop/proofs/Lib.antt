@@ -1,0 +1,6 @@
+mod Answering
+mod Calls
+mod FrameLaws
+mod Going
+mod Sizes
+mod Statuses
