@@ -90,40 +90,38 @@ front_more a b c xs ys before front =
     (length xs + front.0, subst (Appends a c) (sym (take-append-add xs ys front.0)) both)
 
 module _ (left mid left' written wmid written' : Option (List ℕ)) (at : ℕ) (so : UpTo left mid written wmid at) where
-  xs : List Turn
-  xs = so.answered.turns
+  asked : Consumes left mid (asked_bytes so.answered.turns)
+  asked = subst (Consumes left mid) (ap (λ (l : List ℕ). asked_bytes so.answered.turns ++ l) so.answered.behind ∙ append-nil (asked_bytes so.answered.turns)) so.answered.took
 
-  asked : Consumes left mid (asked_bytes xs)
-  asked = subst (Consumes left mid) (ap (λ (l : List ℕ). asked_bytes xs ++ l) so.answered.behind ∙ append-nil (asked_bytes xs)) so.answered.took
-
-  module _ (Wrote Wrote' : List ℕ → Type 0) (next : ℕ) (e : TookTurn Wrote at mid left' next) (more : (ys : List ℕ) → Wrote ys → Wrote' (answered_bytes xs ++ ys)) where
+  module _ (Wrote Wrote' : List ℕ → Type 0) (next : ℕ) (e : TookTurn Wrote at mid left' next) (more : (ys : List ℕ) → Wrote ys → Wrote' (answered_bytes so.answered.turns ++ ys)) where
     further : Answered NothingBehind Wrote' left left'
     further =
         let x = e.turn in
-        let bytes : asked_bytes (xs ++ x ∷ []) ≡ asked_bytes xs ++ x.frame = asked_more xs x in
-        let long = ap (λ (l : List ℕ). length l) bytes ∙ length-append (asked_bytes xs) x.frame in
+        let bytes : asked_bytes (so.answered.turns ++ x ∷ []) ≡ asked_bytes so.answered.turns ++ x.frame = asked_more so.answered.turns x in
+        let long : length (asked_bytes (so.answered.turns ++ x ∷ [])) ≡ length (asked_bytes so.answered.turns) + length x.frame = ap (λ (l : List ℕ). length l) bytes ∙ length-append (asked_bytes so.answered.turns) x.frame in
         let place = e.place in
         let before = so.place in
         let within = e.within in
         record {
-          turns = xs ++ x ∷ [];
+          turns = so.answered.turns ++ x ∷ [];
           rest = [];
-          are = are_more xs x so.answered.are e.is;
-          took = subst (Consumes left left') (sym (append-nil (asked_bytes (xs ++ x ∷ [])) ∙ bytes)) (consumes_more left mid left' (asked_bytes xs) x.frame asked e.took);
+          are = are_more so.answered.turns x so.answered.are e.is;
+          took = subst (Consumes left left') (sym (append-nil (asked_bytes (so.answered.turns ++ x ∷ [])) ∙ bytes)) (consumes_more left mid left' (asked_bytes so.answered.turns) x.frame asked e.took);
           within = omega (arith, long, place, before, within);
           behind = refl;
-          wrote = subst Wrote' (sym (answered_more xs x)) (more (answer_bytes x.answer) e.wrote);
+          wrote = subst Wrote' (sym (answered_more so.answered.turns x)) (more (answer_bytes x.answer) e.wrote);
         }
 
   pub goes_on : (next : ℕ) → Steps at mid left' wmid written' (Ok next) → UpTo left left' written written' next
   goes_on next e =
       let x = e.turn in
-      let long = ap (λ (l : List ℕ). length l) (asked_more xs x) ∙ length-append (asked_bytes xs) x.frame in
+      let long : length (asked_bytes (so.answered.turns ++ x ∷ [])) ≡ length (asked_bytes so.answered.turns) + length x.frame = ap (λ (l : List ℕ). length l) (asked_more so.answered.turns x) ∙ length-append (asked_bytes so.answered.turns) x.frame in
       let place = e.place in
       let before = so.place in
+      let behind : next ≡ length (asked_bytes (so.answered.turns ++ x ∷ [])) = omega (arith, long, place, before) in
       record {
-        answered = further (Appends wmid written') (Appends written written') next e (λ ys wrote. appends_more written wmid written' (answered_bytes xs) ys so.answered.wrote wrote);
-        place = omega (arith, long, place, before);
+        answered = further (Appends wmid written') (Appends written written') next e (λ ys wrote. appends_more written wmid written' (answered_bytes so.answered.turns) ys so.answered.wrote wrote);
+        place = behind;
       }
 
   module _ (Behind : ℕ → List ℕ → Type 0) (taken : List ℕ) (took : Consumes mid left' taken) (within : at + length taken ≤ longest_stream) (why : Behind at taken) (kept : Keeps wmid written') where
@@ -131,13 +129,13 @@ module _ (left mid left' written wmid written' : Option (List ℕ)) (at : ℕ) (
     stopped =
         let before = so.place in
         record {
-          turns = xs;
+          turns = so.answered.turns;
           rest = taken;
           are = so.answered.are;
-          took = consumes_more left mid left' (asked_bytes xs) taken asked took;
+          took = consumes_more left mid left' (asked_bytes so.answered.turns) taken asked took;
           within = omega (arith, before, within);
           behind = subst (λ (n : ℕ). Behind n taken) so.place why;
-          wrote = appends_kept written wmid written' (answered_bytes xs) so.answered.wrote kept;
+          wrote = appends_kept written wmid written' (answered_bytes so.answered.turns) so.answered.wrote kept;
         }
 
   pub ends_by : (status : Status) → StepEnds at mid left' wmid written' status → DoorEnds left left' written written' status
@@ -146,7 +144,7 @@ module _ (left mid left' written wmid written' : Option (List ℕ)) (at : ℕ) (
   ends_by statuses.ReadFault e = stopped IsPartial e.0.taken e.0.took e.0.within e.0.why e.1
   ends_by statuses.TooLong e = stopped IsTooLong e.0.taken e.0.took e.0.within e.0.why e.1
   ends_by statuses.NoMemory e = stopped IsFrameOrLess e.0.taken e.0.took e.0.within e.0.frame e.1
-  ends_by statuses.WriteFault e = further (AppendsFront wmid written') (AppendsFront written written') e.0 e.1 (λ ys wrote. front_more written wmid written' (answered_bytes xs) ys so.answered.wrote wrote)
+  ends_by statuses.WriteFault e = further (AppendsFront wmid written') (AppendsFront written written') e.0 e.1 (λ ys wrote. front_more written wmid written' (answered_bytes so.answered.turns) ys so.answered.wrote wrote)
   ends_by statuses.Usage e = absurd e.0.why
 
 -- Usage is never told
