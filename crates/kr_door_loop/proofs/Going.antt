@@ -113,6 +113,7 @@ module _ (left mid left' written wmid written' : Option (List ℕ)) (at : ℕ) (
         }
 
   pub goes_on : (next : ℕ) → Steps at mid left' wmid written' (Ok next) → UpTo left left' written written' next
+  unfolding further
   goes_on next e =
       let x = e.turn in
       let long : length (asked_bytes (so.answered.turns ++ x ∷ [])) ≡ length (asked_bytes so.answered.turns) + length x.frame = ap (λ (l : List ℕ). length l) (asked_more so.answered.turns x) ∙ length-append (asked_bytes so.answered.turns) x.frame in

@@ -14,7 +14,7 @@ use std::alloc::Global;
 
 // Takes the frame that begins at `at`, and writes that of its answer. It answers where the next one begins, or how the input
 // ends.
-#[tactic(auto, using(crate::proofs::Answering::keeps_all, crate::proofs::Going::not_read, crate::proofs::Going::turn_taken, crate::proofs::Going::failed, crate::proofs::Going::lost))]
+#[tactic(auto, using(crate::proofs::Answering::keeps_all, crate::proofs::Going::not_read, crate::proofs::Going::turn_taken, crate::proofs::Going::failed))]
 fn answer_next<S: Source, K: Sink>(
     alloc: Global,
     input: &mut S,

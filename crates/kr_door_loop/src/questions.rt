@@ -1,7 +1,9 @@
 //! The frame of a question.
 
 ghost use Rattle.std.specs.Prelude.{◌≡◌, ◌+◌, ◌≤◌, ◌<◌, length, IfOk, IfErr, IsErrOf, OnOk};
+ghost use Rattle.std.specs.Io.KnownBytes.{Consumes};
 ghost use Rattle.kr_base.specs.Causes.{Rose};
+ghost use Rattle.kr_intake.specs.Shortages.{FallsShort};
 ghost use Rattle.kr_defs.specs.declared.limits.TheConstants.{MOST_SESSION_BYTES};
 ghost use Rattle.kr_door_loop.specs.inner.Steps.{StopsAt, TookFrame, TookSize};
 
@@ -60,6 +62,23 @@ fn room(alloc: Global, size: usize) -> Result<Vec<u8>, NoMemory>
     Ok(bytes)
 }
 
+// The bytes behind the size of the frame that begins at `at`, as many as the vector has.
+fn fill<S: Source>(input: &mut S, mut content: Vec<u8>, at: u64) -> Result<Vec<u8>, Shortage>
+    requires { at + 4 ≤ MOST_SESSION_BYTES }
+    ensures full { IfOk result (λ read. Consumes (S.left input.old) (S.left input.new)
+        read.items) }
+    ensures len { IfOk result (λ read. length read.items ≡ length content.items) }
+    ensures room { OnOk result (at + 4 + length content.items ≤ MOST_SESSION_BYTES) }
+    ensures short { IfErr result (λ shortage. FallsShort (at + 4) (length content.items)
+        (S.left input.old) (S.left input.new) (S.faults input.old) (S.faults input.new) shortage) }
+    ensures later { S.faults input.old ≤ S.faults input.new }
+{
+    match take(input, content.as_mut_slice(), at + 4) {
+        Err(shortage) => Err(shortage),
+        Ok(()) => Ok(content),
+    }
+}
+
 /// What stands behind the size in the frame that begins at `at`: the kind, and the body.
 #[tactic(auto, using(crate::proofs::Sizes::no_room, crate::proofs::Sizes::cut_content, crate::proofs::Sizes::unread_content, crate::proofs::Sizes::long_content, crate::proofs::Sizes::took_frame))]
 pub(crate) fn read_frame<S: Source>(
@@ -80,14 +99,14 @@ pub(crate) fn read_frame<S: Source>(
         Ok(size) => size,
         Err(status) => return Err(status),
     };
-    let mut content = match room(alloc, size as usize) {
+    let content = match room(alloc, size as usize) {
         Ok(content) => content,
         Err(_) => return Err(Status::NoMemory),
     };
-    match take(input, content.as_mut_slice(), at + 4) {
+    match fill(input, content, at) {
         Err(Shortage::Ended { .. }) => Err(Status::Malformed { at }),
         Err(Shortage::ReadFault) => Err(Status::ReadFault),
         Err(Shortage::TooLong) => Err(Status::TooLong),
-        Ok(()) => Ok(content),
+        Ok(content) => Ok(content),
     }
 }
