@@ -2,6 +2,14 @@ use Rattle.std.proofs.Common.{arith}
 use Rattle.kr_door_loop.proofs.Going.{ends_by, goes_on, no_usage, nothing_yet}
 use Rattle.kr_door_loop.proofs.looping.answer_frames.Goals as goal
 
+pub loop-next-init : goal.loop-next-init
+loop-next-init g c = record {
+  within = omega arith;
+  so = nothing_yet _ _;
+  input = omega arith;
+  output = omega arith;
+}
+
 pub loop-next-preserved : goal.loop-next-preserved
 loop-next-preserved g c = record {
   within = c.in-Ok.ensures.further.1;
