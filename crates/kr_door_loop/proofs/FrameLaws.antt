@@ -79,7 +79,7 @@ agree (t ∷ ts) [] a x y are each same nx ny =
     absurd (ny (content_of t.question) t.frame (asked_bytes ts ++ x) (sym (same ∙ ap (λ (l : List ℕ). l ++ y) each) ∙ append_assoc t.frame (asked_bytes ts) x) are.0.asked are.0.fits)
 agree (t ∷ ts) (q ∷ qs) a x y are each same nx ny =
     let regrouped : t.frame ++ (asked_bytes ts ++ x) ≡ each.left ++ (each.right ++ y) =
-        sym (append_assoc t.frame (asked_bytes ts) x) ∙ (same ∙ (ap (λ (l : List ℕ). l ++ y) each.is ∙ append_assoc each.left each.right y)) in
+    sym (append_assoc t.frame (asked_bytes ts) x) ∙ (same ∙ (ap (λ (l : List ℕ). l ++ y) each.is ∙ append_assoc each.left each.right y)) in
     let long = same_long (content_of t.question) (content_of q) t.frame each.left (asked_bytes ts ++ x) (each.right ++ y) are.0.asked each.first.0 regrouped in
     let rest = rest_same t.frame each.left (asked_bytes ts ++ x) (each.right ++ y) long regrouped in
     let more = agree ts qs each.right x y are.1 each.second rest nx ny in

@@ -9,7 +9,7 @@ use crate::images::{image_batches, plan_leaders};
 use crate::lines::{show_image, show_log};
 use crate::logs::fold_log;
 use crate::placements::place_replicas;
-use crate::{Answer, QuestionKind, DoorRefusal};
+use crate::{Answer, DoorRefusal, QuestionKind};
 use std::alloc::Global;
 
 fn answer_of(alloc: Global, kind: QuestionKind, body: &[u8]) -> Answer

@@ -70,12 +70,7 @@ fn answer_frame(alloc: Global, number: u8, body: &[u8]) -> Result<Vec<u8>, NoMem
 
 // Answers a question of the kind with this number, by one put.
 #[tactic(auto, using(crate::proofs::Answering::answer_put, crate::proofs::Answering::answer_front, crate::proofs::Answering::keeps_all))]
-fn put_number<K: Sink>(
-    alloc: Global,
-    number: u8,
-    body: &[u8],
-    output: &mut K,
-) -> Result<(), Status>
+fn put_number<K: Sink>(alloc: Global, number: u8, body: &[u8], output: &mut K) -> Result<(), Status>
     ensures puts { PutsAnswer (number ∷ body.now) (K.written output.old) (K.written output.new)
         result }
     ensures write { IsErrOf result Status.WriteFault →

@@ -8,7 +8,7 @@ ghost use Rattle.kr_door_loop.specs.Answers.{AnswersValue, GivesBy};
 ghost use Rattle.kr_door_loop.specs.Elections as votes;
 ghost use Rattle.kr_door_loop.specs.Elections.{elect_question, elects};
 
-use crate::{Answer, Mine, DoorRefusal};
+use crate::{Answer, DoorRefusal, Mine};
 use kr_base::NoMemory;
 use kr_change::elect;
 use kr_defs::{Bytes, Choice, Facts, Ids, Mode, Partition};

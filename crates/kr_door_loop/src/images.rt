@@ -8,7 +8,7 @@ ghost use Rattle.kr_door_loop.specs.Answers.{GivesBatches, HoldsImage, IsNoImage
 
 use crate::held::Held;
 use crate::logs::tool_refusal;
-use crate::{Answer, Mine, DoorRefusal};
+use crate::{Answer, DoorRefusal, Mine};
 use kr_balance::plan_of;
 use kr_base::NoMemory;
 use kr_defs::{Bytes, Rows, Text};

@@ -15,9 +15,8 @@ mod placements;
 mod questions;
 mod refusal;
 
-use kr_defs::Bytes;
-
 pub use kind::QuestionKind;
+use kr_defs::Bytes;
 pub use looping::answer_all;
 pub use refusal::DoorRefusal;
 

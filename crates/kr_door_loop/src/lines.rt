@@ -17,10 +17,8 @@ fn lines_refusal(fault: ShowFault) -> DoorRefusal
     match fault {
         ShowFault::BadHead => DoorRefusal::NoHead,
         ShowFault::Malformed { at, cause } => DoorRefusal::NoBatch { at, cause },
-        ShowFault::NoMemory
-        | ShowFault::ReadFault
-        | ShowFault::WriteFault
-        | ShowFault::TooLong => DoorRefusal::NoMemory,
+        ShowFault::NoMemory | ShowFault::ReadFault | ShowFault::WriteFault | ShowFault::TooLong =>
+            DoorRefusal::NoMemory,
     }
 }
 

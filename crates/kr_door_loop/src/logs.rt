@@ -16,10 +16,8 @@ pub(crate) fn tool_refusal(fault: ToolFault) -> DoorRefusal
 {
     match fault {
         ToolFault::Malformed { at } => DoorRefusal::Malformed { at },
-        ToolFault::NoMemory
-        | ToolFault::ReadFault
-        | ToolFault::WriteFault
-        | ToolFault::TooLong => DoorRefusal::NoMemory,
+        ToolFault::NoMemory | ToolFault::ReadFault | ToolFault::WriteFault | ToolFault::TooLong =>
+            DoorRefusal::NoMemory,
     }
 }
 

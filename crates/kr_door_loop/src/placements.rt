@@ -9,7 +9,7 @@ ghost use Rattle.kr_door_loop.specs.Answers.{AnswersValue, GivesBy};
 ghost use Rattle.kr_door_loop.specs.Placements as placing;
 ghost use Rattle.kr_door_loop.specs.Placements.{place_broker, place_question, places};
 
-use crate::{Answer, Mine, DoorRefusal};
+use crate::{Answer, DoorRefusal, Mine};
 use kr_base::NoMemory;
 use kr_defs::{Bytes, Copied, Ids, Rows, Text};
 use kr_layout::{BodyFault, Get, Put, ReadFault, Reader, read_body};
@@ -124,7 +124,13 @@ fn place_on(alloc: Global, question: &PlaceQuestion, brokers: &Racked) -> Answer
     requires factor { pos 1 ≤ℤ question.now.factor }
     ensures { GivesBy (placing.placed_on question.now (Some brokers.now)) result }
 {
-    match place(alloc, brokers, question.start, question.index, question.factor) {
+    match place(
+        alloc,
+        brokers,
+        question.start,
+        question.index,
+        question.factor,
+    ) {
         Ok(ids) => Ok(id_bytes(alloc, &ids)?),
         Err(PlaceFault::TooFew { .. }) => Err(DoorRefusal::TooFew),
         Err(PlaceFault::NoMemory) => Err(DoorRefusal::NoMemory),
