@@ -1,5 +1,11 @@
 mod Ends
+mod Exchanged
+mod HeldPlaces
 mod Lists
+mod LostPins
+mod PageCalls
+mod PageReads
+mod Pages
 mod Readings
 mod Refusals
 mod Replies

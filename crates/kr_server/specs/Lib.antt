@@ -1,5 +1,6 @@
 pub mod Exchanges
 pub mod Messages
+pub mod PagingCalls
 pub mod SeatCalls
 pub mod Served
 pub mod Told

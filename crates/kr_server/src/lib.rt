@@ -2,9 +2,11 @@
 #![tactic(auto)]
 
 mod calls;
+mod describing;
 mod end;
 mod exchange;
 mod message;
+mod paging;
 mod reply;
 mod serving;
 mod transcript;

@@ -1,4 +1,4 @@
-//! The rows of 19 connections: the worked one of docs/EXAMPLES.md, what is cut off or fails, and two runs of an independent model.
+//! The rows of 20 connections: the worked one of docs/EXAMPLES.md, what is cut off or fails, and two runs of an independent model.
 
 /// A line for each row: a word, its fields with a space between each two, a tab, and what is expected. Lines that begin with `#`
 /// and empty ones are none.
@@ -70,6 +70,14 @@ send 1000 0000002b002c0001000000070001610002040102146d696e2e696e73796e632e726570
 send . 0000000b0012000300000001ffff00\t0000000700000001000023
 fail-read 3\t-
 end\tReadFault, 1 of 1 replies, 1 exchanges
+# Pages of a description of topics: of a name that no topic has, and of all, which are none; a message that is cut off, and a
+# cursor that is neither null nor a structure.
+open 1 7 9000 1 1 1 c1\t-
+send . 00000015004b000000000001ffff000202780000000002ff00\t0000002700000001000000000002000302780000000000000000000000000000000000018000000000ff00
+send . 00000012004b000000000002ffff000100000002ff00\t0000000c00000002000000000001ff00
+send . 00000011004b000000000003ffff000100000002ff\t000000070000000300002a
+send . 00000012004b000000000004ffff0001000000020200\t000000070000000400002a
+end\tClosed, 4 of 4 replies, 4 exchanges
 # The worker is stopped: the connection ends at its first write.
 open 1 7 9000 1 1 1 c1\t-
 stop\t-
