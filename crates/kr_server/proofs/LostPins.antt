@@ -68,7 +68,7 @@ module _ (place : ℤ) where
 
 -- ---- images in place of all
 
-no_load : (pin : Pin) (e : Entry) → unpins pin e ≡ false → is_load e ≡ false
+pub no_load : (pin : Pin) (e : Entry) → unpins pin e ≡ false → is_load e ≡ false
 no_load pin (entries.Item place item) h = refl
 no_load pin (entries.Load offset records) h = absurd cc
 no_load pin (entries.Pin other) h = refl
@@ -81,7 +81,7 @@ same_loads pin n [] none = refl
 same_loads pin n (e ∷ es) none =
     ap (λ b. fold loads_with (cond b (raised n) n) es) (no_load pin e none.0) ∙ same_loads pin n es none.1
 
-later_part : (P : Entry → Type 0) (xs ys : List Entry) → AllByRecursion P (xs ++ ys) → AllByRecursion P ys
+pub later_part : (P : Entry → Type 0) (xs ys : List Entry) → AllByRecursion P (xs ++ ys) → AllByRecursion P ys
 later_part P [] ys all = all
 later_part P (x ∷ xs) ys all = later_part P xs ys all.1
 
@@ -110,7 +110,7 @@ module _ (pin : Pin) (old new : List Entry) (kept : IsKeptFrom old pin) (on : Go
   none_behind : AllByRecursion (λ e. unpins pin e ≡ false) (kept.rest ++ on.0) → IsTrue (is_kept_in new pin.place)
   none_behind none = subst (λ (l : List Entry). IsTrue (is_kept_in l pin.place)) (sym on.1) (kept.kept on.0 none)
 
-  lost_where : (AllByRecursion (λ e. unpins pin e ≡ false) (kept.rest ++ on.0) → loads_of new ≡ 2 ^ 64 - 1) → IsLost pin new
+  pub lost_where : (AllByRecursion (λ e. unpins pin e ≡ false) (kept.rest ++ on.0) → loads_of new ≡ 2 ^ 64 - 1) → IsLost pin new
   lost_where most = record { before = kept.before; rest = kept.rest ++ on.0; stands = stands_on; lost = most }
 
   gone : (asked oldest : ℤ) → IsNotThere (pinned_log new) pin.place (scans.Gone asked oldest) → IsTrue (is_kept_in new pin.place) → ⊥

@@ -4,4 +4,5 @@ pub mod PagingCalls
 pub mod SeatCalls
 pub mod Served
 pub mod Told
+pub mod Walks
 pub mod inner

@@ -92,7 +92,7 @@ GivesBack old new pin = Unpins old new pin.place (Ok tt)
 
 -- ---- a page
 
--- The pin of the earlier pages is held on where there is a cursor. Else, and where none is held, the committed end is pinned, once
+-- The pin of the earlier pages is held on where there is a cursor. Else, and where none is held, the closed end is pinned, once
 -- the earlier pin is given back.
 abbrev pub HoldsFor : Option LineKey → Option Pin → Client → Client → Pin → Type 0
 HoldsFor (Some cursor) (Some held) old new pin = (new ≡ old) × (pin ≡ held)

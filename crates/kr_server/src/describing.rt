@@ -49,7 +49,7 @@ fn fault_end(fault: PageFault) -> Option<ServeEnd>
     }
 }
 
-// The place for a page: the one that is held, where the walk goes on, and else the committed end.
+// The place for a page: the one that is held, where the walk goes on, and else the closed end.
 #[tactic(auto, using(crate::proofs::HeldPlaces::places, crate::proofs::Pages::renewing))]
 fn begin<R: Wait>(
     rt: &R,
@@ -92,7 +92,7 @@ fn finish<R: Wait>(
     paging.let_go(rt, seat)
 }
 
-// Reads the page at the place that is held. Where the pin is lost, the committed end is held instead.
+// Reads the page at the place that is held. Where the pin is lost, the closed end is held instead.
 #[tactic(auto, using(crate::proofs::HeldPlaces::places))]
 fn describe_once<R: Wait>(
     rt: &R,
@@ -128,7 +128,7 @@ fn describe_once<R: Wait>(
 }
 
 /// The page that is asked for, and the place that it is of: that of the page before, where there is a cursor and its pin isn't lost,
-/// and else the committed end. The place is held while lines are left.
+/// and else the closed end. The place is held while lines are left.
 #[tactic(auto, using(crate::proofs::HeldPlaces::places))]
 pub(crate) fn describe_page<R: Wait>(
     rt: &R,

@@ -5,6 +5,7 @@ mod calls;
 mod describing;
 mod end;
 mod exchange;
+pub mod laws;
 mod message;
 mod paging;
 mod reply;

@@ -16,7 +16,7 @@ pub(crate) struct Paging {
     pub held: Option<i64>,
 }
 
-// Pins the committed end.
+// Pins the closed end.
 fn pin_end<R: Wait>(rt: &R, seat: &mut ClientSeat) -> Result<i64, SubmitFault>
     requires { length seat.old.held < MOST_PLACES }
     ensures pinned { IfOk result (λ place. PinsOne seat.old seat.new
@@ -63,7 +63,7 @@ impl Paging {
         Ok(())
     }
 
-    // Holds the committed end.
+    // Holds the closed end.
     #[tactic(auto, using(crate::proofs::HeldPlaces::places))]
     fn take<R: Wait>(&mut self, rt: &R, seat: &mut ClientSeat) -> Result<i64, SubmitFault>
         requires none { self.old.held ≡ None }
@@ -80,7 +80,7 @@ impl Paging {
         }
     }
 
-    /// Holds the committed end, once the place that is held is given back.
+    /// Holds the closed end, once the place that is held is given back.
     #[tactic(auto, using(crate::proofs::HeldPlaces::places, crate::proofs::Pages::renewing))]
     pub(crate) fn renew<R: Wait>(
         &mut self,

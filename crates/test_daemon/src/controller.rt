@@ -185,12 +185,12 @@ fn connect<R: Wait>(
     sink: &mut ReplySink,
     done: &AtomicU64,
 ) -> (ServeEnd, usize) {
-    let mut transcript = MemoryTranscript::new(alloc);
     // A seat that is just opened holds none.
     if seat.pins() >= MOST_PLACES {
         done.store(1, Ordering::SeqCst);
         return (ServeEnd::NoMemory, 0);
     }
+    let mut transcript = MemoryTranscript::new(alloc);
     let end = serve_client(rt, alloc, seat, source, sink, &mut transcript);
     done.store(1, Ordering::SeqCst);
     (end, transcript.exchanges().len())

@@ -74,7 +74,7 @@ abbrev pub Finished : Bool → Option ℤ → Client → Client → Option ℤ �
 Finished true held old new left result = (result ≡ Ok tt) × (new ≡ old) × (left ≡ held)
 Finished false held old new left result = GaveBack held old new left result
 
--- the committed end was pinned
+-- the closed end was pinned
 abbrev pub TookOne : Client → Client → Option ℤ → Result ℤ SubmitFault → Type 0
 TookOne old new left (Ok place) = PinsOne old new (pin_at old.number new.ticket place) × (left ≡ Some place)
 TookOne old new left (Err fault) = IsPlaceRefused old new fault × (left ≡ None)
