@@ -11,5 +11,5 @@ mod Refusals
 mod Replies
 mod Steps
 mod Streams
-pub mod Walks
+mod Walks
 mod Writes

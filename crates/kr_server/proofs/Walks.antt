@@ -14,7 +14,7 @@ use Rattle.kr_describe.proofs.ValidImages.{image_valid}
 use Rattle.kr_pages.specs.declared.describe.Describe.{Describe}
 use Rattle.kr_pages.specs.declared.describe.Described.{Described}
 use Rattle.kr_pages.specs.declared.describe.LineKey.{LineKey}
-use Rattle.kr_pages.specs.Joined.{IsPaged, joined_pages}
+use Rattle.kr_pages.specs.Joined.{IsPaged}
 use Rattle.kr_pages.specs.Lines.{lines}
 use Rattle.kr_pages.specs.Pages.{limit_of, most_lines, next_cursor, page}
 use Rattle.kr_pages.proofs.Rising.{pages_join_lines}
@@ -25,11 +25,11 @@ use Rattle.kr_shared.specs.Grants.{IsKeptFrom}
 use Rattle.kr_shared.proofs.Onwards.{goes_on, onward_trans}
 use Rattle.kr_server.specs.declared.exchange.Exchange.{Exchange}
 use Rattle.kr_server.specs.declared.exchange.Exchange.TheVariants as exchanges
-use Rattle.kr_server.specs.PagingCalls.{GivesBack, HoldsFor, HoldsOn, IsLost, IsPageExchange, KeepsFor, PinsOne}
+use Rattle.kr_server.specs.PagingCalls.{HoldsFor, HoldsOn, IsLost, IsPageExchange, KeepsFor}
 use Rattle.kr_server.specs.SeatCalls.{AreExchanged, Holder, IsExchanged}
-use Rattle.kr_server.specs.Walks.{IsOfOnePlace, IsPinLost, IsWalk, KeepsPin, KeepsPins, NeighboursGoOn, ToldPage, WalksJoin, page_told, pages_told}
+use Rattle.kr_server.specs.Walks.{IsPinLost, IsWalk, KeepsPins, NeighboursGoOn, ToldPage, WalksJoin, page_told, pages_told}
 use Rattle.kr_server.proofs.LostPins.{later_part, lost_where, no_load}
-use Rattle.kr_server.proofs.PageCalls.{asks_for_page, asks_on, asks_records, asks_to_hold, asks_to_keep}
+use Rattle.kr_server.proofs.PageCalls.{asks_on, asks_records, asks_to_keep}
 use Rattle.kr_server.proofs.Writes.{onward_all, onward_by}
 
 -- ---- neighbours
@@ -54,18 +54,14 @@ kept_between old new [] all none = ap (λ (h : Holder). h.pin) all
 kept_between old new (x ∷ xs) all none =
     kept_between all.0 new xs all.2 (last_none (page_told x) (pages_told xs) none) ∙ same_pin old all.0 x (first_none (page_told x) (pages_told xs) none) all.1
 
-some_key : (o : Option LineKey) → IsTrue (is_some o) → (k : LineKey) × (o ≡ Some k)
-some_key None is = absurd is
-some_key (Some k) is = (k, refl)
-
 -- a page that left lines left its pin
 left_pin : (next : Option LineKey) (got : Client) (pin : Pin) (new : Client) (left : Option Pin) → IsTrue (is_some next) → KeepsFor next got pin new left → left ≡ Some pin
-left_pin None got pin new left is k = absurd is
+left_pin None got pin new left is k = absurd cc
 left_pin (Some next) got pin new left is k = k.1
 
 -- a page with a cursor begins with the pin that is held
 begins_with : (cursor : Option LineKey) (held : Option Pin) (pin : Pin) (old first : Client) (own : Pin) → IsTrue (is_some cursor) → held ≡ Some pin → HoldsFor cursor held old first own → (first ≡ old) × (own ≡ pin)
-begins_with None held pin old first own is holds h = absurd is
+begins_with None held pin old first own is holds h = absurd cc
 begins_with (Some key) None pin old first own is holds h = absurd cc
 begins_with (Some key) (Some other) pin old first own is holds h = (h.0, h.1 ∙ some_is other pin holds)
 
@@ -138,7 +134,7 @@ module _ (pin : Pin) (list : List Entry) (kept : IsKeptFrom list pin) where
 abbrev IsShownAt : ℤ → List Entry → ToldPage → Type 0
 IsShownAt place list p = (p.place ≡ place) × (p.described ≡ page (image_below place list) p.describe)
 
-told : ℤ → Describe → Described → ToldPage
+abbrev told : ℤ → Describe → Described → ToldPage
 told place describe described = record { place = place; describe = describe; described = described }
 
 -- one page and the rest
@@ -169,27 +165,27 @@ module _ (names : List (List ℕ)) (list : List Entry) (pin : Pin) (kept : IsKep
   abbrev AllShown : List ToldPage → Type 0
   AllShown ps = AllByRecursion (IsShownAt pin.place list) ps
 
-  -- the pages behind one that left lines
-  behind : (xs : List Exchange) (old new : Holder) (all : AreExchanged old xs new) (key : LineKey) → GoesOn old.seat.seen.list list → old.pin ≡ Some pin
-      → IsWalk names (Some key) (pages_told xs) → KeepsPins old xs new all → AllShown (pages_told xs)
-
-  -- one page, once the pin is held for it
-  one_page : (xs : List Exchange) (old next new : Holder) (place : ℤ) (describe : Describe) (described : Described) (cursor : Option LineKey)
-      (p : IsPageExchange old.seat old.pin next.seat next.pin place describe described) (all : AreExchanged next xs new)
-      → GoesOn p.ready.seen.list list → p.pin ≡ pin → (IsLost p.pin p.got.seen.list → ⊥) → KeepsPins next xs new all
+  -- a page, once the pin is held for it, and those behind it
+  one_page : (xs : List Exchange) (old next : Holder) (place : ℤ) (describe : Describe) (described : Described) (cursor : Option LineKey)
+      (p : IsPageExchange old.seat old.pin next.seat next.pin place describe described)
+      → GoesOn p.ready.seen.list list → p.pin ≡ pin → (IsLost p.pin p.got.seen.list → ⊥)
+      → ((key : LineKey) → GoesOn next.seat.seen.list list → next.pin ≡ Some pin → IsWalk names (Some key) (pages_told xs) → AllShown (pages_told xs))
       → IsWalk names cursor (told place describe described ∷ pages_told xs) → AllShown (told place describe described ∷ pages_told xs)
-  one_page xs old next new place describe described cursor p all on is not_lost keeps w =
+  one_page xs old next place describe described cursor p on is not_lost rest w =
       let read : GoesOn p.got.seen.list list = goes_on list p.ready.seen.list p.got.seen.list on p.reads.onward.list in
       let shown : IsShownAt pin.place list (told place describe described) =
           subst (λ (q : Pin). IsShownAt q.place list (told place describe described)) is
           (shown_at list old.seat next.seat old.pin next.pin place describe described p (subst (IsKeptFrom list) (sym is) kept) read not_lost) in
       elim (parts names cursor (told place describe described) (pages_told xs) w) [
         | last named asked none end ↦ subst (λ (ps : List ToldPage). AllShown (told place describe described ∷ ps)) (sym end) (shown, tt)
-        | more named asked key goes rest ↦
+        | more named asked key goes further ↦
             let ended = ends_with described.next key p.got p.pin next.seat next.pin goes p.ends in
-            (shown, behind xs next new all key (subst (λ (c : Client). GoesOn c.seen.list list) (sym ended.0) read) (ended.1 ∙ ap (λ (q : Pin). Some q) is) rest keeps)
+            (shown, rest key (subst (λ (c : Client). GoesOn c.seen.list list) (sym ended.0) read) (ended.1 ∙ ap (λ (q : Pin). Some q) is) further)
       ]
 
+  -- the pages behind one that left lines
+  behind : (xs : List Exchange) (old new : Holder) (all : AreExchanged old xs new) (key : LineKey) → GoesOn old.seat.seen.list list → old.pin ≡ Some pin
+      → IsWalk names (Some key) (pages_told xs) → KeepsPins old xs new all → AllShown (pages_told xs)
   behind [] old new all key on held w keeps = absurd w
   behind (exchanges.Write a ∷ xs) old new all key on held w keeps =
       behind xs all.0 new all.2 key (goes_on list old.seat.seen.list all.0.seat.seen.list on (onward_by old all.0 (exchanges.Write a) all.1).list) (all.1.1 ∙ held) w keeps.1
@@ -200,11 +196,12 @@ module _ (names : List (List ℕ)) (list : List Entry) (pin : Pin) (kept : IsKep
   behind (exchanges.Page correlation place describe described ∷ xs) old new all key on held w keeps =
       let p : IsPageExchange old.seat old.pin all.0.seat all.0.pin place describe described = all.1 in
       let asked : describe.cursor ≡ Some key = cursor_of (told place describe described) (pages_told xs) w in
-      let has_one : IsTrue (is_some describe.cursor) = subst (λ (o : Option LineKey). IsTrue (is_some o)) (sym asked) tt in
+      let has_one : IsTrue (is_some describe.cursor) = subst (λ (o : Option LineKey). IsTrue (is_some o)) (sym asked) refl in
       let begun = begins_with describe.cursor old.pin pin old.seat p.first p.own has_one held p.begins in
       let none = no_others p.first p.own p.others p.ready p.pin (keeps.0.0 has_one) p.holds in
-      one_page xs old all.0 new place describe described (Some key) p all.2
-      (subst (λ (c : Client). GoesOn c.seen.list list) (sym (none.0 ∙ begun.0)) on) (none.1 ∙ begun.1) keeps.0.1 keeps.1 w
+      one_page xs old all.0 place describe described (Some key) p
+      (subst (λ (c : Client). GoesOn c.seen.list list) (sym (none.0 ∙ begun.0)) on) (none.1 ∙ begun.1) keeps.0.1
+      (λ next further held w. behind xs all.0 new all.2 next further held w keeps.1) w
     where
       cursor_of : (q : ToldPage) (ps : List ToldPage) → IsWalk names (Some key) (q ∷ ps) → q.describe.cursor ≡ Some key
       cursor_of q [] w = w.1
@@ -282,7 +279,8 @@ walks_join valid old new (exchanges.Page correlation place describe described �
     let own = pinned_first describe.cursor old.pin old.seat p.first p.own asked p.begins in
     let at = held_at p.first p.own p.others p.ready p.pin own p.holds in
     let read : GoesOn p.got.seen.list at.list = goes_on at.list p.ready.seen.list p.got.seen.list at.on p.reads.onward.list in
-    let shown = one_page names at.list p.pin at.kept xs old all.0 new place describe described None p all.2 at.on refl keeps.0.1 keeps.1 w in
+    let shown = one_page names at.list p.pin at.kept xs old all.0 place describe described None p at.on refl keeps.0.1
+        (λ next further held w. behind names at.list p.pin at.kept xs all.0 new all.2 next further held w keeps.1) w in
     let image = image_below p.pin.place at.list in
     record {
       place = p.pin.place;
