@@ -1,6 +1,7 @@
 -- One message: what came of the seat for it, and how it is answered.
 use Rattle.std.proofs.Common.{◌≡◌, ◌∙◌, ◌⊎◌, ℕ, ℤ, List, [], ◌∷◌, ◌++◌, take, Result, Ok, Err, refl, sym, ap, subst, inl, inr}
-use Rattle.std.specs.Prelude.{IfOk, IfSome, IsErrOf, Option, Some, None}
+use Rattle.std.specs.Prelude.{true, false, IfOk, IfSome, IsErrOf, OnErr, OnOk, Option, Some, None}
+use Rattle.std.specs.Result.{is_err}
 use Rattle.std.specs.Io.KnownBytes.{Appends}
 use Rattle.std.proofs.KnownBytes.{Appends-nil}
 use Rattle.kr_base.specs.FailedPuts.{AppendsFront}
@@ -85,6 +86,14 @@ never_reads message old new end n is =
     subst (IsNotExchanged message old new) same n
 
 -- ---- the answer
+
+pub where_err : {T E P : Type 0} (r : Result T E) → OnErr r P → is_err r ≡ true → P
+where_err (Ok t) h is = absurd cc
+where_err (Err e) h is = h
+
+pub where_ok : {T E P : Type 0} (r : Result T E) → OnOk r P → is_err r ≡ false → P
+where_ok (Ok t) h is = h
+where_ok (Err e) h is = absurd cc
 
 module _ (message : List ℕ) (old new : Connection) (pin : Option Pin) (held : Option ℤ) where
   pub not_answered : (end : ServeEnd) → IsSilent old new → IsNotExchanged message old.seat new.seat end → IsNotAnswered message old new pin end

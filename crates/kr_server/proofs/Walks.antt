@@ -139,12 +139,12 @@ told place describe described = record { place = place; describe = describe; des
 
 -- one page and the rest
 data Parts (names : List (List ℕ)) (cursor : Option LineKey) (p : ToldPage) (ps : List ToldPage) : Type 0 where
-  last : p.describe.names ≡ names → p.describe.cursor ≡ cursor → p.described.next ≡ None → ps ≡ [] → Parts names cursor p ps
-  more : p.describe.names ≡ names → p.describe.cursor ≡ cursor → (next : LineKey) → p.described.next ≡ Some next → IsWalk names (Some next) ps → Parts names cursor p ps
+  is_last : p.describe.names ≡ names → p.describe.cursor ≡ cursor → p.described.next ≡ None → ps ≡ [] → Parts names cursor p ps
+  has_more : p.describe.names ≡ names → p.describe.cursor ≡ cursor → (next : LineKey) → p.described.next ≡ Some next → IsWalk names (Some next) ps → Parts names cursor p ps
 
 parts : (names : List (List ℕ)) (cursor : Option LineKey) (p : ToldPage) (ps : List ToldPage) → IsWalk names cursor (p ∷ ps) → Parts names cursor p ps
-parts names cursor p [] w = last w.0 w.1 w.2 refl
-parts names cursor p (q ∷ ps) w = more w.0 w.1 w.2 w.3 w.4
+parts names cursor p [] w = is_last w.0 w.1 w.2 refl
+parts names cursor p (q ∷ ps) w = has_more w.0 w.1 w.2 w.3 w.4
 
 -- the page is of the image that was pinned
 shown_at : (list : List Entry) (old new : Client) (held left : Option Pin) (place : ℤ) (describe : Describe) (described : Described) (p : IsPageExchange old held new left place describe described)
@@ -177,8 +177,8 @@ module _ (names : List (List ℕ)) (list : List Entry) (pin : Pin) (kept : IsKep
           subst (λ (q : Pin). IsShownAt q.place list (told place describe described)) is
           (shown_at list old.seat next.seat old.pin next.pin place describe described p (subst (IsKeptFrom list) (sym is) kept) read not_lost) in
       elim (parts names cursor (told place describe described) (pages_told xs) w) [
-        | last named asked none end ↦ subst (λ (ps : List ToldPage). AllShown (told place describe described ∷ ps)) (sym end) (shown, tt)
-        | more named asked key goes further ↦
+        | is_last named asked none end ↦ subst (λ (ps : List ToldPage). AllShown (told place describe described ∷ ps)) (sym end) (shown, tt)
+        | has_more named asked key goes further ↦
             let ended = ends_with described.next key p.got p.pin next.seat next.pin goes p.ends in
             (shown, rest key (subst (λ (c : Client). GoesOn c.seen.list list) (sym ended.0) read) (ended.1 ∙ ap (λ (q : Pin). Some q) is) further)
       ]

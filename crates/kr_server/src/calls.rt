@@ -94,7 +94,6 @@ fn exchange_page<R: Wait>(
 }
 
 // What is no page.
-#[tactic(auto, using(crate::proofs::Exchanged::no_call_asked))]
 fn exchange_call<R: Wait>(
     rt: &R,
     alloc: Global,

@@ -31,7 +31,7 @@ returns-in-Ok-renew-clause-tried g c = λ old ready.
     let read = subst (λ (i : ℤ). PageRead c.args.seat.now c.page_at.new.seat i c.args.describe.now (Err c.in-Err.fault)) same c.in-Err.ensures in
     let next = lost_place c.args.describe.now.cursor old c.args.seat.now c.page_at.new.seat c.args.place ready read.reads c.renew.new.seat c.renew.new.self.held c.in-Ok-renew.place c.in-Err.fault
       (sym c.in-None.ensures) read.stop (rw c.requires.held at c.in-Ok-renew.ensures.renewed) in
-    subst (IsReadyFor c.args.describe.now.cursor old c.renew.new.seat) (sym (to_z-of_z w64 c.in-Ok-renew.place (record { sfits = (rw c.in-Ok-renew.is at c.renew.type_inv).2.2.0.1 }))) next
+    subst (IsReadyFor c.args.describe.now.cursor old c.renew.new.seat) (sym (to_z-of_z w64 c.in-Ok-renew.place (record { sfits = (rw c.in-Ok-renew.is at c.renew.type_inv).1.1.1.1.0.1 }))) next
 
 pub returns-in-Ok-renew-clause-asks : goal.returns-in-Ok-renew-clause-asks
 returns-in-Ok-renew-clause-asks g c =

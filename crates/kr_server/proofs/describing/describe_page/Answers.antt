@@ -13,7 +13,7 @@ returns-in-Err-clause-none g c = rw c.refusal_end.ensures (place_end c.args.seat
 
 pub loop-preserved : goal.loop-preserved
 loop-preserved g c =
-    let now = to_z-of_z w64 c.loop.place (rw c.loop.place-is (sfits_to_z c.loop.auto.place-fits)) in
+    let now = to_z-of_z w64 c.loop.place (rw (← c.loop.place-is) (sfits_to_z c.loop.auto.place-fits)) in
     let next = to_z-of_z w64 c.in-Ok-Lost.next search in
     let e = c.in-Ok-Lost.ensures in
     record {
