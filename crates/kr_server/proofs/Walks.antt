@@ -174,8 +174,8 @@ module _ (names : List (List ℕ)) (list : List Entry) (pin : Pin) (kept : IsKep
   one_page xs old next place describe described cursor p on is not_lost rest w =
       let read : GoesOn p.got.seen.list list = goes_on list p.ready.seen.list p.got.seen.list on p.reads.onward.list in
       let shown : IsShownAt pin.place list (told place describe described) =
-          subst (λ (q : Pin). IsShownAt q.place list (told place describe described)) is
-          (shown_at list old.seat next.seat old.pin next.pin place describe described p (subst (IsKeptFrom list) (sym is) kept) read not_lost) in
+      subst (λ (q : Pin). IsShownAt q.place list (told place describe described)) is
+      (shown_at list old.seat next.seat old.pin next.pin place describe described p (subst (IsKeptFrom list) (sym is) kept) read not_lost) in
       elim (parts names cursor (told place describe described) (pages_told xs) w) [
         | is_last named asked none end ↦ subst (λ (ps : List ToldPage). AllShown (told place describe described ∷ ps)) (sym end) (shown, tt)
         | has_more named asked key goes further ↦
@@ -280,7 +280,7 @@ walks_join valid old new (exchanges.Page correlation place describe described �
     let at = held_at p.first p.own p.others p.ready p.pin own p.holds in
     let read : GoesOn p.got.seen.list at.list = goes_on at.list p.ready.seen.list p.got.seen.list at.on p.reads.onward.list in
     let shown = one_page names at.list p.pin at.kept xs old all.0 place describe described None p at.on refl keeps.0.1
-        (λ next further held w. behind names at.list p.pin at.kept xs all.0 new all.2 next further held w keeps.1) w in
+    (λ next further held w. behind names at.list p.pin at.kept xs all.0 new all.2 next further held w keeps.1) w in
     let image = image_below p.pin.place at.list in
     record {
       place = p.pin.place;

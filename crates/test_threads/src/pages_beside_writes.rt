@@ -127,19 +127,22 @@ impl PagesBesideWrites {
     // One active broker, and the three topics.
     fn is_set_up<R: Wait>(&self, rt: &R, seat: &mut ClientSeat) -> Result<bool, NoMemory> {
         let alloc = self.alloc;
-        Ok(is_at(rt, seat, &registration(alloc, 1)?, 0)
-            && is_at(rt, seat, &heartbeat(1, 0, 9), 1)
-            && is_at(rt, seat, &topic(alloc, "a")?, 2)
-            && is_at(rt, seat, &topic_of(alloc, "m", MIDDLE)?, 4)
-            && is_at(rt, seat, &topic(alloc, "z")?, 9_003))
+        Ok(
+            is_at(rt, seat, &registration(alloc, 1)?, 0)
+                && is_at(rt, seat, &heartbeat(1, 0, 9), 1)
+                && is_at(rt, seat, &topic(alloc, "a")?, 2)
+                && is_at(rt, seat, &topic_of(alloc, "m", MIDDLE)?, 4)
+                && is_at(rt, seat, &topic(alloc, "z")?, 9_003),
+        )
     }
 
     // All pages are of the topics that stood at the first of them.
     fn walks<R: Wait>(&self, rt: &R, seat: &mut ClientSeat) -> Result<bool, NoMemory> {
-        if !self.is_set_up(rt, seat)? || seat.pins() >= MOST_PLACES {
+        let is_set_up = self.is_set_up(rt, seat)?;
+        let before = id_of(seat, "z");
+        if !is_set_up || seat.pins() >= MOST_PLACES {
             return Ok(false);
         }
-        let before = id_of(seat, "z");
         let mut source = MemorySource::new(messages(self.alloc)?, Vec::new(self.alloc));
         let mut sink = AskingSink {
             rt,
@@ -147,16 +150,25 @@ impl PagesBesideWrites {
             puts: 0,
         };
         let mut transcript = MemoryTranscript::new(self.alloc);
-        let end = serve_client(rt, self.alloc, seat, &mut source, &mut sink, &mut transcript);
+        let end = serve_client(
+            rt,
+            self.alloc,
+            seat,
+            &mut source,
+            &mut sink,
+            &mut transcript,
+        );
         let after = id_of(seat, "z");
         let exchanges = transcript.exchanges();
-        Ok(matches!(end, ServeEnd::Closed)
-            && seat.pins() == 0
-            && sink.puts == PAGES
-            && is_walk(exchanges, before)
-            && before.is_some()
-            && after.is_some()
-            && before != after)
+        Ok(
+            matches!(end, ServeEnd::Closed)
+                && seat.pins() == 0
+                && sink.puts == PAGES
+                && is_walk(exchanges, before)
+                && before.is_some()
+                && after.is_some()
+                && before != after,
+        )
     }
 }
 
@@ -300,7 +312,9 @@ fn is_walk(exchanges: &[Exchange], id: Option<u128>) -> bool {
     let mut has_id = false;
     for exchange in exchanges {
         let Exchange::Page {
-            place, described, ..
+            place,
+            described,
+            ..
         } = exchange
         else {
             return false;
