@@ -1,6 +1,7 @@
 """What the log tells and no reply shows: each registered broker with its state, and how many replicas a topic wants in sync. It is
 read from a store as the log grows, and anew from an image where one took the place of what wasn't read yet. What isn't needed here is
-passed over; what a record may be was judged by the controller that wrote it (docs/FORMATS.md has the layouts)."""
+passed over; what a record may be was judged by the controller that wrote it (docs/FORMATS.md has the layouts). What stands inside a
+metadata transaction counts once it is ended."""
 import struct
 from typing import NamedTuple
 
@@ -10,6 +11,7 @@ from lib.wire import Reading
 MINIMUM = "min.insync.replicas"
 TOPIC_KIND, BROKER_KIND = 2, 4
 GREATEST = 2147483647
+BEGIN, END, ABORT = 23, 24, 25
 CONTROL = 1 << 5         # in a batch's attributes: its records are none of the controller's
 
 
@@ -31,6 +33,7 @@ class LogState:
 
     def forget(self):
         self.end, self.brokers, self.names, self.minimums = 0, {}, {}, {}
+        self.pending = None                                  # what a transaction that is open has so far
 
     def follow(self, store, prefix):
         """Takes the log up to its end, as it is now: its end, the place of an image, the greatest epoch, and who leads by name."""
@@ -63,9 +66,20 @@ class LogState:
         if struct.unpack_from(">h", batch, 21)[0] & CONTROL:
             return
         for value in values(batch):
-            taker = TAKERS.get(value[1])                     # the frame version and the key have a byte each
-            if taker:
-                taker(self, Reading(value[3:]), value[2], when)
+            key = value[1]                                   # the frame version and the key have a byte each
+            if key == BEGIN:
+                self.pending = []
+            elif key in (END, ABORT):
+                ended, self.pending = self.pending or [], None
+                for one in ended if key == END else []:
+                    self.take_value(*one)
+            elif key in TAKERS and self.pending is not None:
+                self.pending.append((value, when))
+            elif key in TAKERS:
+                self.take_value(value, when)
+
+    def take_value(self, value, when):
+        TAKERS[value[1]](self, Reading(value[3:]), value[2], when)
 
     def minimum(self, topic, otherwise=1):
         """How many replicas of the topic have to be in sync: its own setting, else that of all brokers, else the daemon's."""

@@ -46,6 +46,7 @@ class Daemon:
         self.fed, self.events, self.unpinged = 0, 0, 0       # its committed end; events sent; bytes fed since the last ping
         self.pings, self.heard = {}, None                    # event number: (when, epoch that is led); when it last answered
         self.is_asked = False                                # an image that hasn't come
+        self.vain = 0                                        # the end at which an image was asked for that dropped nothing
         for work in (self._write, self._read):
             threading.Thread(target=work, daemon=True).start()
 
@@ -63,7 +64,7 @@ class Daemon:
 
     def ask_image(self):
         self.send(IMAGE, b"")
-        self.is_asked = True
+        self.is_asked, self.asked = True, self.fed
 
     def ping(self, led):
         """Lost of an epoch that nobody leads: refused always, and the refusal tells the epoch that the daemon leads."""
@@ -308,7 +309,8 @@ class Link:
     def consider_image(self):
         """An image is asked for once the daemon is far enough past the last one, of who leads only where nobody else gave one."""
         _, _, image = look(self.store, self.options.prefix)
-        if not self.daemon.is_asked and self.daemon.fed - image >= self.options.images * (2 if self.lead else 1):
+        grown = self.daemon.fed - max(image, self.daemon.vain)
+        if not self.daemon.is_asked and grown >= self.options.images * (2 if self.lead else 1):
             self.daemon.ask_image()
 
     def keep(self, daemon, image):
@@ -319,6 +321,8 @@ class Link:
                 return                                       # none is asked for any more
             if drop(self.options.store(), self.options.prefix, image):
                 say(f"an image of {len(image)} bytes stands for the log up to place {offset_of(image)}")
+            else:                                            # of the begin of a transaction that is open long, or another node gave one
+                daemon.vain = daemon.asked
         except Unknown as fault:
             say(f"an image has no place: {fault}")
         daemon.is_asked = False

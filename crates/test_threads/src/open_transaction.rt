@@ -1,5 +1,8 @@
 //! A leadership that is lost inside a transaction which another leader left open.
 
+ghost use Rattle.std.specs.Prelude.{IfOk, IsTrue};
+ghost use Rattle.kr_queue.specs.Jobs.{is_link_event};
+
 use crate::threads::{Signs, TellingQuorum, options};
 use kr_base::{MemoryClock, OpenGate};
 use kr_calls::Event;
@@ -20,7 +23,9 @@ const BEGUN: &str =
 const ENDED: &str =
     "00000000000000020000003c0000000102b7e62b4a00000000000000000000000000000000000000000000ffffffffffffffffffffffffffff000000011400000001080118000000";
 
-fn batch(alloc: Global, hex: &str) -> Result<Event, Fail> {
+fn batch(alloc: Global, hex: &str) -> Result<Event, Fail>
+    ensures { IfOk result (λ event. IsTrue (is_link_event event)) }
+{
     Ok(Event::Batch {
         bytes: Bytes::from_vec(hex::decode(alloc, hex)?),
     })
@@ -46,6 +51,7 @@ fn does_next<R: Wait>(
 }
 
 // A worker with its link and a client.
+#[derive(Drop)]
 struct Stage<'a, 'q> {
     alloc: Global,
     worker: &'a mut WorkerSeat,
@@ -55,7 +61,9 @@ struct Stage<'a, 'q> {
 }
 
 impl Stage<'_, '_> {
-    fn takes<R: Wait>(&mut self, rt: &R, event: Event) -> bool {
+    fn takes<R: Wait>(&mut self, rt: &R, event: Event) -> bool
+        requires { IsTrue (is_link_event event) }
+    {
         self.link.push(rt, event).is_ok() && does_next(rt, self.alloc, self.worker, self.quorum)
     }
 
@@ -75,7 +83,7 @@ impl Stage<'_, '_> {
         let (seat, worker, quorum) = (&mut *self.seat, &mut *self.worker, &mut *self.quorum);
         let (pinned, did) = thread::join(
             rt,
-            || seat.pin(rt) == Ok(place),
+            move || seat.pin(rt) == Ok(place),
             || does_next(rt, alloc, worker, quorum),
         );
         pinned && did
@@ -91,12 +99,14 @@ impl Stage<'_, '_> {
 
     fn plays<R: Threads + Wait + Sync>(&mut self, rt: &R) -> Result<bool, Fail> {
         let (begun, ended) = (batch(self.alloc, BEGUN)?, batch(self.alloc, ENDED)?);
-        Ok(self.takes(rt, begun)
-            && self.leads_in_vain(rt)
-            && self.pins(rt, 0)
-            && self.takes(rt, ended)
-            && self.sees(0, 0)
-            && self.sees(3, 1))
+        Ok(
+            self.takes(rt, begun)
+                && self.leads_in_vain(rt)
+                && self.pins(rt, 0)
+                && self.takes(rt, ended)
+                && self.sees(0, 0)
+                && self.sees(3, 1),
+        )
     }
 }
 

@@ -63,7 +63,6 @@ pub(crate) fn partition(alloc: Global, topic: u128, index: i32) -> Result<Record
     })
 }
 
-#[tactic(auto, using(crate::proofs::StagedItems::stays_plain))]
 pub(crate) fn stage_record(
     publisher: &mut Publisher,
     place: i64,
@@ -74,10 +73,10 @@ pub(crate) fn stage_record(
     ensures { OnOk result (IsPlain publisher.new) }
 {
     let item = Item::Record(change);
-    match publisher.stage(Entry::Item { place, item }) {
-        Ok(()) => Ok(()),
-        Err(_) => Err(NoMemory),
+    if let Err(_) = publisher.stage(Entry::Item { place, item }) {
+        return Err(NoMemory);
     }
+    Ok(())
 }
 
 pub(crate) fn all_topics() -> Call
