@@ -16,15 +16,17 @@ loop-preserved g c =
     let now = to_z-of_z w64 c.loop.place (rw (← c.loop.place-is) (sfits_to_z c.loop.auto.place-fits)) in
     let next = to_z-of_z w64 c.in-Ok-Lost.next search in
     let e = c.in-Ok-Lost.ensures in
+    let left = rw c.in-Ok-Lost.field-0-is at e.next in
     record {
-      held = e.next ∙ ap (λ (i : ℤ). Some i) (sym next);
+      held = left ∙ ap (λ (i : ℤ). Some i) (sym next);
       room = e.places.room c.loop.invariant.room;
       places = keeps_more _ _ _ _ _ _ c.loop.invariant.places e.places;
       asks = asks_more _ _ _ c.loop.invariant.asks e.asks;
       ready = λ pin held.
           let old = holder c.args.seat.now pin in
           let ready = subst (IsReadyFor c.args.describe.now.cursor old c.loop.seat) (sym now) (c.loop.invariant.ready pin held) in
-          subst (IsReadyFor c.args.describe.now.cursor old c.describe_once.new.seat) (sym next) (e.tried old ready);
+          let tried = rw c.in-Ok-Lost.field-0-is at (e.tried old ready) in
+          subst (IsReadyFor c.args.describe.now.cursor old c.describe_once.new.seat) (sym next) tried;
     }
 
 pub returns-in-Err-describe_once-clause-none : goal.returns-in-Err-describe_once-clause-none

@@ -11,5 +11,5 @@ invariant-loop g l = record {
   room : HasPlaceLeft l.seat.held l.paging.held;
   places : KeepsPlaces l.fn.seat l.fn.paging.held l.seat l.paging.held;
   asks : AsksForPages l.fn.seat l.seat;
-  ready : (pin : Option Pin) → IsPinPlace l.fn.paging.held (holder l.fn.seat pin) → IsReadyFor l.describe.cursor (holder l.fn.seat pin) l.seat l.place;
+  ready : (pin : Option Pin) → IsPinPlace l.fn.paging.held (holder l.fn.seat pin) → IsReadyFor l.fn.describe.cursor (holder l.fn.seat pin) l.seat l.place;
 }
