@@ -24,7 +24,7 @@ loop-preserved g c =
       asks = asks_more _ _ _ c.loop.invariant.asks e.asks;
       ready = λ pin held.
           let old = holder c.args.seat.now pin in
-          let ready = subst (IsReadyFor c.args.describe.now.cursor old c.loop.seat) (sym now) (c.loop.invariant.ready pin held) in
+          let ready = subst (IsReadyFor c.args.describe.now.cursor old c.loop.seat) (c.loop.place-is ∙ sym now) (c.loop.invariant.ready pin held) in
           let tried = rw c.in-Ok-Lost.field-0-is at (e.tried old ready) in
           subst (IsReadyFor c.args.describe.now.cursor old c.describe_once.new.seat) (sym next) tried;
     }
