@@ -1,5 +1,4 @@
 use Rattle.std.proofs.Common.{◌∙◌, ℤ, Some, ap, subst, sym, w64}
-use Rattle.std.proofs.Math.Facts.{sfits_to_z}
 use Rattle.std.proofs.lemmas.Int.{to_z-of_z}
 use Rattle.kr_server.specs.SeatCalls.{holder}
 use Rattle.kr_server.specs.inner.Paging.{IsReadyFor}
@@ -13,7 +12,6 @@ returns-in-Err-clause-none g c = rw c.refusal_end.ensures (place_end c.args.seat
 
 pub loop-preserved : goal.loop-preserved
 loop-preserved g c =
-    let now = to_z-of_z w64 c.loop.place (rw (← c.loop.place-is) (sfits_to_z c.loop.auto.place-fits)) in
     let next = to_z-of_z w64 c.in-Ok-Lost.next search in
     let e = c.in-Ok-Lost.ensures in
     let left = rw c.in-Ok-Lost.field-0-is at e.next in
@@ -24,7 +22,7 @@ loop-preserved g c =
       asks = asks_more _ _ _ c.loop.invariant.asks e.asks;
       ready = λ pin held.
           let old = holder c.args.seat.now pin in
-          let ready = subst (IsReadyFor c.args.describe.now.cursor old c.loop.seat) (c.loop.place-is ∙ sym now) (c.loop.invariant.ready pin held) in
+          let ready = c.loop.invariant.ready pin held in
           let tried = rw c.in-Ok-Lost.field-0-is at (e.tried old ready) in
           subst (IsReadyFor c.args.describe.now.cursor old c.describe_once.new.seat) (sym next) tried;
     }
