@@ -159,7 +159,7 @@ no_more ls k n link None None e r = refl
 no_more ls k n link None (Some epoch) e r = absurd r
 no_more ls k n link (Some h) leads e r = absurd cc
 
-held_is : (a b : Held) → Some a ≡ Some b → a ≡ b
+pub held_is : (a b : Held) → Some a ≡ Some b → a ≡ b
 held_is a b e = ap (λ o. unwrap_or o a) e
 
 pub waits_at : (ls : List Leadership) (k : ℕ) (n : Node) (link : Link) (h : Held) → link.held ≡ Some h → n.leads ≡ None → IsRight ls k n link → Waits ls k link h

@@ -353,7 +353,7 @@ module _ (make : List Batch → List ℕ) where
         web_both k n new (moves_on make w.cluster (moves.Lead k e.epoch e.start) h.cluster (begin_allowed k e m)) (λ i x. x) (h.calls k)
         (subst (λ (o : Option Held). RightAt ls k n new o (Some e.epoch)) (sym m.holds) runs) (h.keeps k) (h.piped k)
 
-    write_right : (k : ℕ) (b : Batch) → MayWrite w k b → IsAllowedMove make w.cluster (moves.Write k b) → IsWeb make (stepped w (Write k b))
+    write_right : (k : ℕ) (b : Batch) → MayWrite (w.cluster.nodes k) b → IsAllowedMove make w.cluster (moves.Write k b) → IsWeb make (stepped w (Write k b))
     write_right k b m a = by (w.links k).held refl
       where
         n : Node
@@ -610,25 +610,10 @@ module _ (make : List Batch → List ℕ) where
     renew_right : (k : ℕ) → IsWeb make (stepped w (Renew k))
     renew_right k = web_both k new_node (record (idle (w.links k)) { pipe = [] }) (moves_on make w.cluster (moves.Renew k) h.cluster tt) (λ i x. x) (h.calls k) tt (h.keeps k) tt
 
-    give_right : (k : ℕ) (keep : Keep) → MayGive make (w.cluster.nodes k) keep → IsWeb make (stepped w (Give k keep))
-    give_right k keep m =
-        let f = h.cluster.nodes k in
-        web_link k (record (w.links k) { keeps = keep ∷ (w.links k).keeps }) (λ i x. x) (h.calls k)
-        (right_kept ls k (w.cluster.nodes k) (w.links k) (keep ∷ (w.links k).keeps) (w.links k).held (w.cluster.nodes k).leads (h.right k)) (
-          (
-            m.later,
-            record {
-              gone = f.gone ++ m.first;
-              rest = m.more ++ f.rest;
-              split = f.split
-                  ∙ (ap (λ (x : List Batch). (f.gone ++ x) ++ f.rest) m.split
-                  ∙ (ap (λ (x : List Batch). x ++ f.rest) (sym (append_assoc f.gone m.first m.more)) ∙ append_assoc (f.gone ++ m.first) m.more f.rest));
-              offset = (m.right f.gone f.image).0;
-              bytes = (m.right f.gone f.image).1;
-            },
-          ),
-          h.keeps k,
-        ) (h.piped k)
+    give_right : (k : ℕ) (keep : Keep) → MayGive make w.cluster.point.log keep → IsWeb make (stepped w (Give k keep))
+    give_right k keep m = web_link k (record (w.links k) { keeps = keep ∷ (w.links k).keeps }) (λ i x. x) (h.calls k)
+        (right_kept ls k (w.cluster.nodes k) (w.links k) (keep ∷ (w.links k).keeps) (w.links k).held (w.cluster.nodes k).leads (h.right k))
+        ((m.later, m.right), h.keeps k) (h.piped k)
 
     clear_sent : (k : ℕ) (keep : Keep) → Has keep (w.links k).keeps → IsSent make w.cluster.point (Drop keep.before keep.image)
     clear_sent k keep has = has_all (IsKept make w.cluster.point.log) keep (w.links k).keeps (h.keeps k) has
@@ -653,7 +638,7 @@ module _ (make : List Batch → List ℕ) where
 
   -- ---- all
 
-  step_right : (w : Web) (step : LinkStep) → IsWeb make w → IsPossible make w step → AreAllowed make w.cluster (handed w step) × IsWeb make (stepped w step)
+  pub step_right : (w : Web) (step : LinkStep) → IsWeb make w → IsPossible make w step → AreAllowed make w.cluster (handed w step) × IsWeb make (stepped w step)
   step_right w (Execute k call) h a = ((execute_sent w h k call a, tt), execute_by w h k call a (compares w.cluster.point.keys (append_of call)) refl)
   step_right w (Clear k keep) h a =
       let sent = clear_sent w h k keep a in
@@ -676,7 +661,7 @@ module _ (make : List Batch → List ℕ) where
   step_right w (LetGo k) h a = (tt, let_go_right w h k a)
   step_right w (Renew k) h a = ((tt, tt), renew_right w h k)
 
-  allowed_both : (c : Cluster) (some more : List Move) → AreAllowed make c some → AreAllowed make (fold moved c some) more → AreAllowed make c (some ++ more)
+  pub allowed_both : (c : Cluster) (some more : List Move) → AreAllowed make c some → AreAllowed make (fold moved c some) more → AreAllowed make c (some ++ more)
   allowed_both c [] more a b = b
   allowed_both c (move ∷ some) more (here, a) b = (here, allowed_both (moved c move) some more a b)
 
@@ -686,7 +671,7 @@ module _ (make : List Batch → List ℕ) where
       let r = step_right w step h here in
       allowed_both w.cluster (handed w step) (all_handed (stepped w step) steps) r.0 (steps_right (stepped w step) steps r.1 a)
 
-  first_web : IsWeb make no_web
+  pub first_web : IsWeb make no_web
   first_web = record { cluster = first_cluster make; carry = tt; calls = λ k. tt; unused = λ epoch l found. absurd cc; right = λ k. tt; keeps = λ k. tt; piped = λ k. tt }
 
 pub links_hand_right : LinksHandRight

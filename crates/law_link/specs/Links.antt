@@ -1,9 +1,8 @@
 -- Links between daemons and the store: what each knows, what it asks, and what it then hands its daemon.
 use Rattle.std.specs.Prelude.{◌≡◌, ◌<◌, ◌⊎◌, ℕ, List, [], ◌∷◌, ◌++◌, cond, Option, None, Some, nat_eq, fold}
-use Rattle.law_quorum.specs.Batches.{Batch, StoredImage, BatchStandsAt, behind}
+use Rattle.law_quorum.specs.Batches.{Batch, StoredImage, BatchStandsAt, ImageStandsFor, behind}
 use Rattle.law_quorum.specs.Changes.{Append, Change, Drop}
 use Rattle.law_quorum.specs.History.{Leadership}
-use Rattle.law_quorum.specs.Laws.{IsImageOf}
 use Rattle.law_quorum.specs.Nodes.{Cluster, MayLoad, Move, Node, at_first, moved}
 use Rattle.law_quorum.specs.Nodes as moves
 
@@ -153,9 +152,9 @@ pub record MayBegin (w : Web) (k : ℕ) (h : Held) : Type 0 where
   pub reached : (w.cluster.nodes k).end ≡ h.start
 
 -- the daemon's promise: a batch that it writes has the epoch that it leads, begins where the one before it ends, and isn't empty
-pub record MayWrite (w : Web) (k : ℕ) (b : Batch) : Type 0 where
-  pub leads : (w.cluster.nodes k).leads ≡ Some b.epoch
-  pub base : b.base ≡ behind (w.cluster.nodes k).end (w.cluster.nodes k).own
+pub record MayWrite (n : Node) (b : Batch) : Type 0 where
+  pub leads : n.leads ≡ Some b.epoch
+  pub base : b.base ≡ behind n.end n.own
   pub some : 0 < b.count
 
 -- its epoch is one that the node led before
@@ -182,14 +181,10 @@ pub record MaySettle (w : Web) (k : ℕ) (h : Held) : Type 0 where
   pub some : (w.links k).asked ≡ first ∷ others
   pub seen : BatchStandsAt w.cluster.point.log (w.cluster.nodes k).end first
 
--- The daemon's promise: its image is of a beginning of what it was handed, whatever the image that it loaded stands for. The link calls
--- for it where it is of a later place than the one that it takes the place of.
-pub record MayGive (make : List Batch → List ℕ) (n : Node) (keep : Keep) : Type 0 where
-  pub first : List Batch
-  pub more : List Batch
-  pub split : n.batches ≡ first ++ more
-  pub right : (gone : List Batch) → IsImageOf make n.image gone → (behind 0 (gone ++ first) ≡ keep.image.offset) × (keep.image.bytes ≡ make (gone ++ first))
+-- an image of a beginning of the log, of a later place than the one that it takes the place of
+pub record MayGive (make : List Batch → List ℕ) (log : List Batch) (keep : Keep) : Type 0 where
   pub later : keep.before < keep.image.offset
+  pub right : ImageStandsFor make log keep.image
 
 abbrev pub IsPossible : (List Batch → List ℕ) → Web → LinkStep → Type 0
 IsPossible make w (Execute k call) = Has call (w.links k).calls
@@ -199,13 +194,13 @@ IsPossible make w (Win k h) = ((w.links k).held ≡ None) × (Has h.epoch (w.lin
 IsPossible make w (Read k b) = ((w.cluster.nodes k).leads ≡ None) × BatchStandsAt w.cluster.point.log (w.cluster.nodes k).end b
 IsPossible make w (Take k image) = MayLoad make w.cluster.point (w.cluster.nodes k) image
 IsPossible make w (Begin k h) = MayBegin w k h
-IsPossible make w (Write k b) = MayWrite w k b
+IsPossible make w (Write k b) = MayWrite (w.cluster.nodes k) b
 IsPossible make w (Stray k b) = MayStray w k b
 IsPossible make w (Hear k b rest) = ((w.links k).pipe ≡ b ∷ rest) × ((w.cluster.nodes k).leads ≡ Some b.epoch)
 IsPossible make w (Pass k b rest) = ((w.links k).pipe ≡ b ∷ rest) × ((w.cluster.nodes k).leads ≡ Some b.epoch → ⊥)
 IsPossible make w (Ask k h group rest) = MayAsk w k h group rest
 IsPossible make w (Settle k h) = MaySettle w k h
-IsPossible make w (Give k keep) = MayGive make (w.cluster.nodes k) keep
+IsPossible make w (Give k keep) = MayGive make w.cluster.point.log keep
 IsPossible make w (GiveUp k epoch) = (w.cluster.nodes k).leads ≡ Some epoch
 IsPossible make w (LetGo k) = (w.cluster.nodes k).leads ≡ None
 IsPossible make w (Renew k) = Unit {0}

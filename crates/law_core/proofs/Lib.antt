@@ -1,0 +1,3 @@
+mod Examples
+pub mod CoreSteps
+pub mod CoreRuns
