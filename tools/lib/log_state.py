@@ -1,18 +1,16 @@
 """What the log tells and no reply shows: each registered broker with its state, and how many replicas a topic wants in sync. It is
-read from a store as the log grows, and anew from an image where one took the place of what wasn't read yet. What isn't needed here is
-passed over; what a record may be was judged by the controller that wrote it (docs/FORMATS.md has the layouts). What stands inside a
-metadata transaction counts once it is ended."""
-import struct
+read from a store as the log grows, and anew from an image where one took the place of what wasn't read yet. Its records are those that
+`kr_door` shows; what isn't needed here is passed over, and what a record may be was judged by the controller that wrote it. What stands
+inside a metadata transaction counts once it is ended."""
 from typing import NamedTuple
 
-from lib.batches import Dropped, offset_of, read, read_image, span, standing, values
-from lib.wire import Reading
+from lib.batches import Broken, Dropped, offset_of, read, read_image, span, standing
+from pibranog import Closed, Door, Refused
 
+BEGIN, END, ABORT = "BEGIN_TRANSACTION_RECORD", "END_TRANSACTION_RECORD", "ABORT_TRANSACTION_RECORD"
 MINIMUM = "min.insync.replicas"
 TOPIC_KIND, BROKER_KIND = 2, 4
 GREATEST = 2147483647
-BEGIN, END, ABORT = 23, 24, 25
-CONTROL = 1 << 5         # in a batch's attributes: its records are none of the controller's
 
 
 class Broker(NamedTuple):
@@ -29,11 +27,17 @@ class Broker(NamedTuple):
 
 class LogState:
     def __init__(self):
+        self.door = None                                     # kr_door, once it is needed
         self.forget()
 
     def forget(self):
         self.end, self.brokers, self.names, self.minimums = 0, {}, {}, {}
         self.pending = None                                  # what a transaction that is open has so far
+
+    def close(self):
+        if self.door:
+            self.door.close()
+        self.door = None
 
     def follow(self, store, prefix):
         """Takes the log up to its end, as it is now: its end, the place of an image, the greatest epoch, and who leads by name."""
@@ -42,44 +46,53 @@ class LogState:
             self.take_image(read_image(store, prefix))
         try:
             for batch in read(store, prefix, self.end, end):
-                self.take(batch, struct.unpack_from(">q", batch, 27)[0])
-                self.end = span(batch)[1]
+                self.take_batch(batch)
         except Dropped:
             pass                                             # from the image, the next time
         return {"end": end, "image": image, "epoch": epoch, "leader": leader}
 
+    def shown(self, ask, data):
+        """The records that the door shows."""
+        try:
+            self.door = self.door or Door()
+            return ask(self.door, data)
+        except (Closed, OSError) as fault:
+            self.door = None
+            raise Broken(f"kr_door doesn't answer: {fault}")
+        except Refused as refused:
+            raise Broken(f"a batch is refused: {refused}")
+
     def take_image(self, image):
         """An image has no times: since when a broker's state is what it is stays known where it is the same as before."""
-        before = self.brokers
+        records, before = self.shown(Door.image_records, image), self.brokers
         self.forget()
-        at = 16                                              # behind its place and its number of records
-        while at < len(image):
-            behind = at + 12 + struct.unpack_from(">i", image, at + 8)[0]
-            self.take(image[at:behind], None)
-            at = behind
+        for record in records:
+            self.take(record, None)
         self.end = offset_of(image)
         for number, broker in self.brokers.items():
             if number in before and before[number]._replace(since=None) == broker:
                 self.brokers[number] = before[number]
 
-    def take(self, batch, when):
-        if struct.unpack_from(">h", batch, 21)[0] & CONTROL:
-            return
-        for value in values(batch):
-            key = value[1]                                   # the frame version and the key have a byte each
-            if key == BEGIN:
-                self.pending = []
-            elif key in (END, ABORT):
-                ended, self.pending = self.pending or [], None
-                for one in ended if key == END else []:
-                    self.take_value(*one)
-            elif key in TAKERS and self.pending is not None:
-                self.pending.append((value, when))
-            elif key in TAKERS:
-                self.take_value(value, when)
+    def take_batch(self, batch):
+        for record in self.shown(Door.log_records, batch):
+            self.take(record, record["timestamp"])
+        self.end = span(batch)[1]
 
-    def take_value(self, value, when):
-        TAKERS[value[1]](self, Reading(value[3:]), value[2], when)
+    def take(self, record, when):
+        kind = record.get("type")
+        if kind == BEGIN:
+            self.pending = []
+        elif kind in (END, ABORT):
+            ended, self.pending = self.pending or [], None
+            for one in ended if kind == END else []:
+                self.take_now(*one)
+        elif kind in TAKERS and self.pending is not None:
+            self.pending.append((record, when))
+        elif kind in TAKERS:
+            self.take_now(record, when)
+
+    def take_now(self, record, when):
+        TAKERS[record["type"]](self, record["data"], when)
 
     def minimum(self, topic, otherwise=1):
         """How many replicas of the topic have to be in sync: its own setting, else that of all brokers, else the daemon's."""
@@ -87,16 +100,11 @@ class LogState:
 
     # ---- records
 
-    def _register(self, r, version, when):
-        number, _, epoch = r.number(4), r.take(16), r.number(8)
-        r.many(lambda: (r.text(), r.text(), r.number(2), r.number(2)))
-        r.many(lambda: (r.text(), r.number(2), r.number(2)))
-        r.text()
-        fenced, stopping = r.number(1) != 0, version > 0 and r.number(1) != 0
-        self.brokers[number] = Broker(epoch, fenced, stopping, when)
+    def _register(self, data, when):
+        self.brokers[data["brokerId"]] = Broker(data["brokerEpoch"], data["fenced"], data.get("inControlledShutdown", False), when)
 
-    def _unregister(self, r, _, __):
-        self.brokers.pop(r.number(4), None)
+    def _unregister(self, data, _):
+        self.brokers.pop(data["brokerId"], None)
 
     def _change(self, number, fenced, stopping, when):
         """1 fences, -1 unfences, 0 leaves; 1 stops."""
@@ -104,30 +112,24 @@ class LogState:
         after = before._replace(fenced=fenced > 0 if fenced else before.fenced, stopping=before.stopping or stopping > 0)
         self.brokers[number] = before if after == before else after._replace(since=when)
 
-    def _registration_change(self, r, _, when):
-        number, _, tags = r.number(4), r.number(8), {}
-        for _ in range(r.uvarint()):
-            tag, size = r.uvarint(), r.uvarint()
-            tags[tag] = r.number(size)
-        self._change(number, tags.get(0, 0), tags.get(1, 0), when)
+    def _registration_change(self, data, when):
+        self._change(data["brokerId"], data.get("fenced", 0), data.get("inControlledShutdown", 0), when)
 
-    def _fence(self, r, _, when):
-        self._change(r.number(4), 1, 0, when)
+    def _fence(self, data, when):
+        self._change(data["id"], 1, 0, when)
 
-    def _unfence(self, r, _, when):
-        self._change(r.number(4), -1, 0, when)
+    def _unfence(self, data, when):
+        self._change(data["id"], -1, 0, when)
 
-    def _topic(self, r, _, __):
-        name = r.text()
-        self.names[r.take(16)] = name
+    def _topic(self, data, _):
+        self.names[data["topicId"]] = data["name"]
 
-    def _remove_topic(self, r, _, __):
-        self.minimums.pop((TOPIC_KIND, self.names.pop(r.take(16))), None)
+    def _remove_topic(self, data, _):
+        self.minimums.pop((TOPIC_KIND, self.names.pop(data["topicId"])), None)
 
-    def _config(self, r, _, __):
-        kind, name, key, value = r.number(1), r.text(), r.text(), r.text()
-        if key == MINIMUM:
-            self.minimums[kind, name] = minimum_of(value)
+    def _config(self, data, _):
+        if data["name"] == MINIMUM:
+            self.minimums[data["resourceType"], data["resourceName"]] = minimum_of(data["value"])
 
 
 def minimum_of(value):
@@ -136,5 +138,6 @@ def minimum_of(value):
     return int(value) if is_one else None
 
 
-TAKERS = {0: LogState._register, 1: LogState._unregister, 2: LogState._topic, 4: LogState._config, 7: LogState._fence,
-          8: LogState._unfence, 9: LogState._remove_topic, 17: LogState._registration_change}
+TAKERS = {"REGISTER_BROKER_RECORD": LogState._register, "UNREGISTER_BROKER_RECORD": LogState._unregister, "TOPIC_RECORD": LogState._topic,
+          "CONFIG_RECORD": LogState._config, "FENCE_BROKER_RECORD": LogState._fence, "UNFENCE_BROKER_RECORD": LogState._unfence,
+          "REMOVE_TOPIC_RECORD": LogState._remove_topic, "BROKER_REGISTRATION_CHANGE_RECORD": LogState._registration_change}

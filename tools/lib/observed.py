@@ -232,6 +232,7 @@ class Observer:
         try:
             if place and place != self.where:
                 self.store = FileStore(told["file"], reads=True) if "file" in told else Gateway(told["etcd"])
+                self.state.close()
                 self.where, self.state = place, LogState()
             if self.store is None:
                 self.fault = "no link tells where the log is"

@@ -2,17 +2,9 @@
 //! record to standard output.
 #![tactic(auto)]
 
-mod batch;
-mod fault;
-mod frames;
-mod input;
-mod showing;
-mod words;
-
-pub use fault::ShowFault;
 use kr_base::{ReadSource, WriteSink};
+use kr_lines::{refuse, run};
 use kr_process::{Status, words_of};
-pub use words::{refuse, run};
 
 fn main(rt: HostRuntime) -> Status {
     let mut notes = WriteSink::new(rt.stderr());
