@@ -229,8 +229,10 @@ fn add_message(bytes: &mut Vec<u8>, number: i32, cursor: Option<i32>) -> Result<
 fn messages(alloc: Global) -> Result<Vec<u8>, NoMemory> {
     let mut bytes = Vec::new(alloc);
     add_message(&mut bytes, 0, None)?;
+    let mut last = PAGE_LINES - 1;
     for number in 1..PAGES {
-        add_message(&mut bytes, number, Some(number * PAGE_LINES - 1))?;
+        add_message(&mut bytes, number, Some(last))?;
+        last = last.saturating_add(PAGE_LINES);
     }
     Ok(bytes)
 }
