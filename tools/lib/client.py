@@ -4,7 +4,7 @@ import functools
 import socket
 import struct
 
-from lib.wire import NoReply, array, ids, message, text
+from lib.wire import NoReply, Reading, array, ids, message, text
 
 ERRORS = {
     3: "unknown topic or partition", 5: "no leader", 17: "invalid topic name", 35: "unsupported version",
@@ -133,6 +133,67 @@ def describe(o):
     return message(3, 12, body), tell
 
 
+def told_part(r):
+    """A partition of a page, in words."""
+    error, index, leader, epoch = r.number(2), r.number(4), r.number(4), r.number(4)
+    replicas, in_sync, eligible, known, offline = r.ids(), r.ids(), r.ids(), r.ids(), r.ids()
+    led = "no leader" if leader < 0 else f"led by {leader}"
+    more = [f", {what} {listed(which)}" for what, which in (("eligible", eligible), ("last known", known), ("offline", offline)) if which]
+    return f"  partition {index}: {led} in epoch {epoch}, replicas {listed(replicas)}, in sync {listed(in_sync)}" + "".join(more)
+
+
+def page(o, cursor=None):
+    """A page of topics: its message, and what tells its lines and then the next cursor."""
+    place = b"\xff" if cursor is None else b"\1" + text(cursor[0]) + struct.pack(">i", cursor[1]) + b"\0"
+    body = array([text(name) + b"\0" for name in o.topics]) + struct.pack(">i", o.limit) + place
+
+    def tell(r):
+        r.number(4)
+
+        def topic():
+            error, name, number, _ = r.number(2), r.text(), r.take(16), r.number(1)
+            lines = [f"topic {name}: " + (f"id {number.hex()}" if error == 0 else said(error))] + r.many(lambda: told_part(r))
+            r.number(4)
+            return error, "\n".join(lines)
+        yield from r.many(topic)
+        if r.number(1) == 1:
+            o.cursor = r.text(), r.number(4)
+            r.tags()
+        else:
+            o.cursor = None
+    return message(75, 0, body), tell
+
+
+def describe_by_pages(o):
+    """The pages from the first to the last, each asked with the cursor that the one before gave."""
+    o.cursor = None
+    yield page(o)
+    while o.cursor is not None:
+        yield page(o, o.cursor)
+
+
+def requests(o):
+    """The messages that the words ask, one after the other, each with what tells its reply."""
+    if getattr(o, "limit", None) is None:
+        yield o.request(o)
+    else:
+        yield from describe_by_pages(o)
+
+
+def answers(connection, o):
+    """Each error and its line, as they come."""
+    for request, tell in requests(o):
+        reply = Reading(connection.ask(request))
+        reply.number(4)
+        reply.tags()
+        # A reply to what is no call has an error alone.
+        if len(reply.data) == 7:
+            error = reply.number(2)
+            yield error, said(error)
+            return
+        yield from tell(reply)
+
+
 def alter(o):
     kind, name = (4, "" if o.broker is None else str(o.broker)) if o.topic is None else (2, o.topic)
     settings = [text(key) + bytes([1 if value is None else 0]) + text(value) + b"\0" for key, value in o.set]
@@ -239,6 +300,7 @@ def parser():
     one.add_argument("--dry", action="store_true", help="only asks whether it could be")
     one = add("describe", describe, "shows active brokers, the cluster id and topics")
     one.add_argument("topics", nargs="*", help="which (default all)")
+    one.add_argument("--limit", type=int, metavar="N", help="topics alone, by pages of N lines of one place of the log (1 to 2,000)")
     one = add("alter", alter, "sets settings, KEY=VALUE, or removes them, KEY")
     one.add_argument("set", type=setting, nargs="+", metavar="KEY[=VALUE]")
     one.add_argument("--topic", help="of this topic (default of every broker)")

@@ -1,12 +1,15 @@
 //! The threads of the clients' seats.
 
+ghost use Rattle.std.specs.Prelude.{◌<◌, length};
+ghost use Rattle.kr_shared.specs.declared.places.TheConstants.{MOST_PLACES};
+
 use crate::client_stream::{ClientSink, ClientSource};
 use crate::door::Door;
 use crate::events::rest;
 use crate::watch::{Watch, spawn_watch};
 use kr_base::{NoMemory, ReadSource, WriteSink};
 use kr_server::{NoTranscript, ServeEnd, serve_client};
-use kr_shared::ClientSeat;
+use kr_shared::{ClientSeat, MOST_PLACES};
 use std::alloc::Global;
 use std::io::{BufReader, Eprint};
 use std::net::TcpStream;
@@ -21,7 +24,9 @@ fn serve<R: Wait + Copy>(
     seat: &mut ClientSeat,
     watch: &Watch,
     stream: TcpStream,
-) -> Result<ServeEnd, NoMemory> {
+) -> Result<ServeEnd, NoMemory>
+    requires { length seat.old.held < MOST_PLACES }
+{
     // A reply is one put, so it needn't wait for more.
     let _ = stream.set_nodelay(true);
     let stream = Arc::new(alloc, stream)?;
@@ -37,7 +42,9 @@ fn serve_stream<R: Wait + Copy>(
     seat: &mut ClientSeat,
     watch: &Watch,
     stream: &TcpStream,
-) -> Result<ServeEnd, NoMemory> {
+) -> Result<ServeEnd, NoMemory>
+    requires { length seat.old.held < MOST_PLACES }
+{
     // A message's size and body come by one read.
     let Ok(reader) = BufReader::new(alloc, stream) else {
         return Err(NoMemory);
@@ -47,7 +54,8 @@ fn serve_stream<R: Wait + Copy>(
     Ok(serve_client(rt, alloc, seat, &mut source, &mut sink, &mut NoTranscript))
 }
 
-/// Accepts one connection after the other and serves it at the seat, until the worker is stopped.
+/// Accepts one connection after the other and serves it at the seat, until the worker is stopped; none more where the seat holds as
+/// many places as it may, so that none is left for pages.
 fn accept_all<R: Wait + Eprint + time::Clock + Copy>(
     rt: &R,
     alloc: Global,
@@ -56,6 +64,9 @@ fn accept_all<R: Wait + Eprint + time::Clock + Copy>(
     door: &Door,
 ) {
     for _ in rt.forever() {
+        if seat.pins() >= MOST_PLACES {
+            return;
+        }
         let Ok((stream, _)) = door.listener.accept() else {
             rest(rt);
             continue;

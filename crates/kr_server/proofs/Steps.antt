@@ -1,48 +1,42 @@
 -- How the serving of a connection goes on by one message, and how it ends.
-use Rattle.std.proofs.Common.{◌≡◌, ◌∙◌, ℕ, ◌+◌, ◌≤◌, List, [], ◌∷◌, ◌++◌, length, Option, Result, Ok, Err, refl, sym, ap, subst, inl, inr, arith, append-nil, length-append}
+use Rattle.std.proofs.Common.{◌≡◌, ◌∙◌, ℕ, ℤ, ◌+◌, ◌≤◌, List, [], ◌∷◌, ◌++◌, length, Option, Result, Ok, Err, refl, sym, ap, subst, inl, inr, arith, append-nil, length-append}
+use Rattle.std.specs.Prelude.{None}
 use Rattle.std.specs.Prelude.{IsErrOf}
 use Rattle.std.specs.Io.KnownBytes.{Consumes}
 use Rattle.std.proofs.KnownBytes.{Consumes-nil, Consumes-trans}
 use Rattle.kr_defs.specs.declared.limits.TheConstants.{MOST_SESSION_BYTES}
 use Rattle.kr_wire.specs.Grammar.{Each}
+use Rattle.kr_calls.specs.declared.pins.Pin.{Pin}
 use Rattle.kr_view.specs.declared.seat.CopyFault.TheVariants as copies
+use Rattle.kr_shared.specs.declared.clients.SubmitFault.{SubmitFault}
 use Rattle.kr_shared.specs.declared.clients.SubmitFault.TheVariants as submits
 use Rattle.kr_server.specs.declared.end.ServeEnd.{ServeEnd}
 use Rattle.kr_server.specs.declared.end.ServeEnd.TheVariants as ends
 use Rattle.kr_server.specs.declared.exchange.Exchange.{Exchange}
 use Rattle.kr_server.specs.Exchanges.{IsAskedFor, IsMessageOf}
 use Rattle.kr_server.specs.Messages.{IsSizedMessage}
-use Rattle.kr_server.specs.SeatCalls.{for_ask, PushesWrites, pushed_writes}
-use Rattle.kr_server.specs.Served.{Connection, EndsBehind, Served, WroteReplies, WroteRepliesUpTo, connection}
+use Rattle.kr_server.specs.SeatCalls.{for_ask, Holder, IsWithoutMemory, PushesWrites, holder, pushed_writes}
+use Rattle.kr_server.specs.Served.{Connection, EndsBehind, IsWithoutAnswer, IsWithoutCopy, Served, WroteReplies, WroteRepliesUpTo, connection}
 use Rattle.kr_server.specs.inner.Reading.{IsUnread, TookPiece}
 use Rattle.kr_server.specs.inner.Serving.{IsAnsweredBy, IsAnsweredInPart, IsNotAnswered, IsNotExchanged, IsSilent, ServedSoFar}
+use Rattle.kr_server.specs.inner.Paging.{IsPinPlace}
 use Rattle.kr_server.proofs.Lists.{each_both, each_one, tells_more, tells_none, tells_same}
 use Rattle.kr_server.proofs.Replies.{wrote_in_part, wrote_more, wrote_none, wrote_same}
-use Rattle.kr_server.proofs.Writes.{exchanged_more, exchanged_none, pushes_refused, pushes_those, pushes_unread, pushes_without_memory}
-
--- ---- a read fault comes of the source alone
-
-abbrev err_of : {T : Type 0} → ServeEnd → Result T ServeEnd → ServeEnd
-err_of other (Ok t) = other
-err_of other (Err end) = end
-
-pub never_reads : {T : Type 0} (message : List ℕ) (old new : Connection) (end : ServeEnd) → IsNotAnswered message old new end → IsErrOf {T = T} (Err end) ends.ReadFault → ⊥
-never_reads message old new end n is =
-    let same : end ≡ ends.ReadFault = ap (err_of end) is in
-    let none = subst (IsNotAnswered message old new) same n in
-    none.1
+use Rattle.kr_server.proofs.Writes.{asks_without_page, exchanged_more, exchanged_none, pushes_no_more, pushes_refused, pushes_those, pushes_unread, pushes_without_memory}
 
 -- ---- one message after the other
 
 -- before the first message
-pub begins : (first : Connection) → ServedSoFar first first 0
+pub begins : (first : Connection) → ServedSoFar first first None 0
 begins first = record {
   xs = [];
   front = [];
+  pin = None;
   asked = refl;
   took = Consumes-nil first.left;
   place = refl;
-  exchanged = exchanged_none first.seat;
+  exchanged = exchanged_none (holder first.seat None);
+  is_held = record { is = refl; kept = tt };
   wrote = wrote_none first.written;
   tells = tells_none first.told;
 }
@@ -51,17 +45,23 @@ begins first = record {
 sized_asked : (x : Exchange) (message bytes : List ℕ) → IsSizedMessage message bytes → IsAskedFor x message → IsMessageOf x bytes
 sized_asked x message bytes sized asked = record { message = message; sized = sized; holds = asked }
 
-module _ (first before : Connection) (at : ℕ) (g : ServedSoFar first before at) where
+module _ (first before : Connection) (held : Option ℤ) (at : ℕ) (g : ServedSoFar first before held at) where
+  abbrev base : Holder
+  base = holder first.seat None
+
+  abbrev now : Holder
+  now = holder before.seat g.pin
+
   -- ---- no message is read
 
   module _ (left' : Option (List ℕ)) (rest : List ℕ) (took : Consumes before.left left' rest) (within : length g.front + length rest ≤ MOST_SESSION_BYTES) where
-    ended_in : (end : ServeEnd) → EndsBehind (length g.front) rest left' before.seat before.seat end → WroteRepliesUpTo end first.written before.written g.xs
+    ended_in : (end : ServeEnd) → EndsBehind (length g.front) rest left' now before.seat end → WroteRepliesUpTo end first.written before.written g.xs
         → Served first (connection left' before.written before.told before.seat) end
     ended_in end behind wrote = record {
       xs = g.xs;
       front = g.front;
       rest = rest;
-      mid = before.seat;
+      mid = now;
       asked = g.asked;
       took = Consumes-trans first.left before.left left' g.front rest g.took took;
       within = within;
@@ -69,7 +69,7 @@ module _ (first before : Connection) (at : ℕ) (g : ServedSoFar first before at
       behind = behind;
       wrote = wrote;
       tells = g.tells;
-      pushed = pushes_those first.seat before.seat before.seat g.xs g.exchanged refl;
+      pushed = pushes_those base now before.seat g.xs g.exchanged refl;
     }
 
   module _ (left' : Option (List ℕ)) (f h : ℕ) where
@@ -104,44 +104,46 @@ module _ (first before : Connection) (at : ℕ) (g : ServedSoFar first before at
     asked_too x asked = each_both IsMessageOf g.xs (x ∷ []) g.front t.taken g.asked (each_one IsMessageOf x t.taken (sized_asked x message t.taken t.is asked))
 
     -- it is answered
-    pub goes_on : IsAnsweredBy message before after → ServedSoFar first after next
-    goes_on a = record {
+    pub goes_on : (left : Option ℤ) → IsAnsweredBy message before after g.pin left → ServedSoFar first after left next
+    goes_on left a = record {
       xs = g.xs ++ a.x ∷ [];
+      pin = a.left;
       front = g.front ++ t.taken;
       asked = asked_too a.x a.asked;
       took = took_so;
       place = sym length_so;
-      exchanged = exchanged_more first.seat before.seat after.seat g.xs a.x g.exchanged a.exchanged;
+      exchanged = exchanged_more base now (holder after.seat a.left) g.xs a.x g.exchanged a.exchanged;
+      is_held = a.is_held;
       wrote = wrote_more first.written before.written after.written g.xs g.wrote a.x a.fits a.wrote;
       tells = tells_more first.told before.told after.told g.xs (a.x ∷ []) g.tells a.tells;
     }
 
     -- it is answered in part
-    answered_in_part : IsAnsweredInPart message before after → Served first after ends.WriteFault
+    answered_in_part : IsAnsweredInPart message before after g.pin → Served first after ends.WriteFault
     answered_in_part a = record {
       xs = g.xs ++ a.x ∷ [];
       front = g.front ++ t.taken;
       rest = [];
-      mid = after.seat;
+      mid = holder after.seat a.left;
       asked = asked_too a.x a.asked;
       took = subst (Consumes first.left after.left) (sym (append-nil (g.front ++ t.taken))) took_so;
       within = let w = t.within in omega (arith, length_so, w);
-      exchanged = exchanged_more first.seat before.seat after.seat g.xs a.x g.exchanged a.exchanged;
+      exchanged = exchanged_more base now (holder after.seat a.left) g.xs a.x g.exchanged a.exchanged;
       behind = (refl, refl);
       wrote = wrote_in_part first.written before.written after.written g.xs g.wrote a.x a.fits a.wrote;
       tells = tells_more first.told before.told after.told g.xs (a.x ∷ []) g.tells a.tells;
-      pushed = pushes_those first.seat after.seat after.seat (g.xs ++ a.x ∷ []) (exchanged_more first.seat before.seat after.seat g.xs a.x g.exchanged a.exchanged) refl;
+      pushed = pushes_those base (holder after.seat a.left) after.seat (g.xs ++ a.x ∷ []) (exchanged_more base now (holder after.seat a.left) g.xs a.x g.exchanged a.exchanged) refl;
     }
 
     -- it is not answered
     module _ (silent : IsSilent before after) where
-      not_answered : (end : ServeEnd) → EndsBehind (length g.front) t.taken after.left before.seat after.seat end → WroteRepliesUpTo end first.written after.written g.xs
+      not_answered : (end : ServeEnd) → EndsBehind (length g.front) t.taken after.left now after.seat end → WroteRepliesUpTo end first.written after.written g.xs
           → PushesWrites first.seat before.seat after.seat (pushed_writes g.xs) → Served first after end
       not_answered end behind wrote pushed = record {
         xs = g.xs;
         front = g.front;
         rest = t.taken;
-        mid = before.seat;
+        mid = now;
         asked = g.asked;
         took = took_so;
         within = let e = length-append g.front t.taken in let w = t.within in omega (arith, e, length_so, w);
@@ -155,31 +157,40 @@ module _ (first before : Connection) (at : ℕ) (g : ServedSoFar first before at
       wrote_so : WroteReplies first.written after.written g.xs
       wrote_so = wrote_same first.written before.written after.written g.xs g.wrote silent.wrote
 
-      refused : (end : ServeEnd) → IsNotExchanged message before.seat after.seat end → Served first after end
-      refused ends.Closed n = absurd n
-      refused (ends.Malformed place) n = absurd n
-      refused ends.ReadFault n = absurd n
-      refused ends.WriteFault n = absurd n
-      refused ends.TooLong n = absurd n
-      refused (ends.Ended number) n =
-          not_answered (ends.Ended number) (record { message = message; sized = t.is; holds = n }) wrote_so (pushes_refused first.seat before.seat after.seat g.xs g.exchanged (submits.Ended number) message n)
-      refused (ends.Ahead floor tip) n =
-          not_answered (ends.Ahead floor tip) (record { message = message; sized = t.is; holds = n }) wrote_so (pushes_refused first.seat before.seat after.seat g.xs g.exchanged (submits.Ahead floor tip) message n)
-      refused (ends.Exhausted tip) n =
-          not_answered (ends.Exhausted tip) (record { message = message; sized = t.is; holds = n }) wrote_so (pushes_refused first.seat before.seat after.seat g.xs g.exchanged (submits.Exhausted tip) message n)
-      refused ends.NoCopy n =
-          not_answered ends.NoCopy (record { message = message; sized = t.is; holds = n }) wrote_so (pushes_unread first.seat before.seat after.seat g.xs g.exchanged copies.NoCopy message n)
-      refused ends.NoMemory n =
-          not_answered ends.NoMemory (inr (record { message = message; sized = t.is; holds = n })) wrote_so (pushes_without_memory first.seat before.seat after.seat g.xs g.exchanged message n)
+      no_answer : (fault : SubmitFault) (end : ServeEnd) → IsWithoutAnswer before.seat after.seat fault end message → PushesWrites first.seat before.seat after.seat (pushed_writes g.xs)
+      no_answer fault end (inl write) = pushes_refused base now after.seat g.xs g.exchanged fault message write
+      no_answer fault end (inr page) = pushes_no_more base now after.seat g.xs g.exchanged (asks_without_page before.seat after.seat end message page)
 
-    pub fails : (end : ServeEnd) → IsNotAnswered message before after end → Served first after end
+      no_copy : IsWithoutCopy before.seat after.seat message → PushesWrites first.seat before.seat after.seat (pushed_writes g.xs)
+      no_copy (inl read) = pushes_unread base now after.seat g.xs g.exchanged copies.NoCopy message read
+      no_copy (inr page) = pushes_no_more base now after.seat g.xs g.exchanged (asks_without_page before.seat after.seat ends.NoCopy message page)
+
+      refused : (end : ServeEnd) → (end ≡ ends.NoMemory → ⊥) → IsNotExchanged message before.seat after.seat end → Served first after end
+      refused ends.Closed other n = absurd n
+      refused (ends.Malformed place) other n = absurd n
+      refused ends.ReadFault other n = absurd n
+      refused ends.WriteFault other n = absurd n
+      refused ends.TooLong other n = absurd n
+      refused (ends.Ended number) other n =
+          not_answered (ends.Ended number) (record { message = message; sized = t.is; holds = n }) wrote_so (no_answer (submits.Ended number) (ends.Ended number) n)
+      refused (ends.Ahead floor tip) other n =
+          not_answered (ends.Ahead floor tip) (record { message = message; sized = t.is; holds = n }) wrote_so (no_answer (submits.Ahead floor tip) (ends.Ahead floor tip) n)
+      refused (ends.Exhausted tip) other n =
+          not_answered (ends.Exhausted tip) (record { message = message; sized = t.is; holds = n }) wrote_so (pushes_refused base now after.seat g.xs g.exchanged (submits.Exhausted tip) message n)
+      refused ends.NoCopy other n = not_answered ends.NoCopy (record { message = message; sized = t.is; holds = n }) wrote_so (no_copy n)
+      refused ends.NoMemory other n = absurd (other refl)
+
+      no_memory : IsWithoutMemory now after.seat message → Served first after ends.NoMemory
+      no_memory n = not_answered ends.NoMemory (inr (record { message = message; sized = t.is; holds = n })) wrote_so (pushes_without_memory base now after.seat g.xs g.exchanged message n)
+
+    pub fails : (end : ServeEnd) → IsNotAnswered message before after g.pin end → Served first after end
     fails ends.WriteFault a = answered_in_part a
-    fails ends.Closed a = refused a.0 ends.Closed a.1
-    fails (ends.Malformed place) a = refused a.0 (ends.Malformed place) a.1
-    fails ends.ReadFault a = refused a.0 ends.ReadFault a.1
-    fails ends.TooLong a = refused a.0 ends.TooLong a.1
-    fails (ends.Ended number) a = refused a.0 (ends.Ended number) a.1
-    fails (ends.Ahead floor tip) a = refused a.0 (ends.Ahead floor tip) a.1
-    fails (ends.Exhausted tip) a = refused a.0 (ends.Exhausted tip) a.1
-    fails ends.NoCopy a = refused a.0 ends.NoCopy a.1
-    fails ends.NoMemory a = refused a.0 ends.NoMemory a.1
+    fails ends.Closed a = refused a.0 ends.Closed (λ e. cc) a.1
+    fails (ends.Malformed place) a = refused a.0 (ends.Malformed place) (λ e. cc) a.1
+    fails ends.ReadFault a = refused a.0 ends.ReadFault (λ e. cc) a.1
+    fails ends.TooLong a = refused a.0 ends.TooLong (λ e. cc) a.1
+    fails (ends.Ended number) a = refused a.0 (ends.Ended number) (λ e. cc) a.1
+    fails (ends.Ahead floor tip) a = refused a.0 (ends.Ahead floor tip) (λ e. cc) a.1
+    fails (ends.Exhausted tip) a = refused a.0 (ends.Exhausted tip) (λ e. cc) a.1
+    fails ends.NoCopy a = refused a.0 ends.NoCopy (λ e. cc) a.1
+    fails ends.NoMemory a = no_memory a.0 a.1

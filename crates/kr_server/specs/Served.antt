@@ -1,11 +1,12 @@
 -- What the serving of a client's connection comes to: the messages that were taken, the replies that were written, the exchanges
 -- that were told, and what the seat did. This project's own.
-use Rattle.std.specs.Prelude.{◌≡◌, ◌⊎◌, ℕ, ◌+◌, ◌<◌, ◌≤◌, List, [], ◌∷◌, ◌++◌, length, take, All, Option, IfSome}
+use Rattle.std.specs.Prelude.{◌≡◌, ◌⊎◌, ℕ, ℤ, ◌+◌, ◌<◌, ◌≤◌, List, [], ◌∷◌, ◌++◌, length, take, All, Option, None, IfSome, Result, Err}
 use Rattle.std.specs.Io.KnownBytes.{Appends, Consumes, IsAtEnd}
 use Rattle.kr_base.specs.Causes.{Still}
 use Rattle.kr_wire.specs.Grammar.{Each}
 use Rattle.kr_defs.specs.declared.limits.TheConstants.{MOST_SESSION_BYTES}
 use Rattle.kr_view.specs.declared.seat.CopyFault.TheVariants as copies
+use Rattle.kr_shared.specs.declared.clients.SubmitFault.{SubmitFault}
 use Rattle.kr_shared.specs.declared.clients.SubmitFault.TheVariants as submits
 use Rattle.kr_shared.specs.Clients.{Client}
 use Rattle.kr_server.specs.declared.end.ServeEnd.{ServeEnd}
@@ -13,7 +14,8 @@ use Rattle.kr_server.specs.declared.end.ServeEnd.TheVariants as ends
 use Rattle.kr_server.specs.declared.exchange.Exchange.{Exchange}
 use Rattle.kr_server.specs.Exchanges.{IsMessageOf, SizedReplyFits, sized_replies, sized_reply}
 use Rattle.kr_server.specs.Messages.{IsBrokenMessage, IsMessageBegun, IsMessageCut, IsMessageThat, IsSizedMessage}
-use Rattle.kr_server.specs.SeatCalls.{AreExchanged, IsRefusedRead, IsRefusedWrite, IsWithoutMemory, PushesWrites, pushed_writes}
+use Rattle.kr_server.specs.PagingCalls.{Unpins}
+use Rattle.kr_server.specs.SeatCalls.{AreExchanged, Holder, IsRefusedPage, IsRefusedRead, IsRefusedWrite, IsWithoutMemory, PushesWrites, holder, pushed_writes}
 use Rattle.kr_server.specs.Told.{TellsMore}
 
 -- the bytes that the source has left and those that were written to the sink, where they are told; the exchanges, where the
@@ -50,46 +52,72 @@ WroteRepliesUpTo other written written' xs = WroteReplies written written' xs
 
 -- ---- the ends
 
+-- the write that the message asks, or the page
+abbrev pub IsWithoutAnswer : Client → Client → SubmitFault → ServeEnd → List ℕ → Type 0
+IsWithoutAnswer old new fault end message = IsRefusedWrite old new fault message ⊎ IsRefusedPage old new end message
+
+-- the read that the message asks, or the page
+abbrev pub IsWithoutCopy : Client → Client → List ℕ → Type 0
+IsWithoutCopy old new message = IsRefusedRead old new copies.NoCopy message ⊎ IsRefusedPage old new ends.NoCopy message
+
 -- What was taken behind the messages of the exchanges, which end before the place `at`, and what the seat did then:
 -- at Closed, nothing, and the source is at its end;
 -- at Malformed, what tells that no message stands there, or all that there is of one;
 -- at ReadFault, too few bytes of a message; at TooLong too, and no more bytes of one connection are taken;
 -- at WriteFault, nothing;
--- at Ended, Ahead and Exhausted, a write to which `submit` answered so; at NoCopy, a read to which `read` answered so;
+-- at Ended and Ahead, a write to which `submit` answered so, or a page for which the seat did; at Exhausted, such a write; at NoCopy,
+-- a read to which `read` answered so, or such a page;
 -- at NoMemory, too few bytes of a message, or a whole one without memory.
-abbrev pub EndsBehind : ℕ → List ℕ → Option (List ℕ) → Client → Client → ServeEnd → Type 0
-EndsBehind at rest left' mid new ends.Closed = (new ≡ mid) × (rest ≡ []) × IsAtEnd left' × (at < MOST_SESSION_BYTES)
-EndsBehind at rest left' mid new (ends.Malformed place) = (new ≡ mid) × (place ≡ at) × IsBrokenMessage at rest left'
-EndsBehind at rest left' mid new ends.ReadFault = (new ≡ mid) × IsMessageCut at rest
-EndsBehind at rest left' mid new ends.WriteFault = (new ≡ mid) × (rest ≡ [])
-EndsBehind at rest left' mid new ends.TooLong = (new ≡ mid) × IsMessageBegun rest × (at + length rest ≡ MOST_SESSION_BYTES)
-EndsBehind at rest left' mid new (ends.Ended number) = IsMessageThat (IsRefusedWrite mid new (submits.Ended number)) rest
-EndsBehind at rest left' mid new (ends.Ahead floor tip) = IsMessageThat (IsRefusedWrite mid new (submits.Ahead floor tip)) rest
-EndsBehind at rest left' mid new (ends.Exhausted tip) = IsMessageThat (IsRefusedWrite mid new (submits.Exhausted tip)) rest
-EndsBehind at rest left' mid new ends.NoCopy = IsMessageThat (IsRefusedRead mid new copies.NoCopy) rest
-EndsBehind at rest left' mid new ends.NoMemory = ((new ≡ mid) × IsMessageBegun rest) ⊎ IsMessageThat (IsWithoutMemory mid new) rest
+abbrev pub EndsBehind : ℕ → List ℕ → Option (List ℕ) → Holder → Client → ServeEnd → Type 0
+EndsBehind at rest left' mid new ends.Closed = (new ≡ mid.seat) × (rest ≡ []) × IsAtEnd left' × (at < MOST_SESSION_BYTES)
+EndsBehind at rest left' mid new (ends.Malformed place) = (new ≡ mid.seat) × (place ≡ at) × IsBrokenMessage at rest left'
+EndsBehind at rest left' mid new ends.ReadFault = (new ≡ mid.seat) × IsMessageCut at rest
+EndsBehind at rest left' mid new ends.WriteFault = (new ≡ mid.seat) × (rest ≡ [])
+EndsBehind at rest left' mid new ends.TooLong = (new ≡ mid.seat) × IsMessageBegun rest × (at + length rest ≡ MOST_SESSION_BYTES)
+EndsBehind at rest left' mid new (ends.Ended number) = IsMessageThat (IsWithoutAnswer mid.seat new (submits.Ended number) (ends.Ended number)) rest
+EndsBehind at rest left' mid new (ends.Ahead floor tip) = IsMessageThat (IsWithoutAnswer mid.seat new (submits.Ahead floor tip) (ends.Ahead floor tip)) rest
+EndsBehind at rest left' mid new (ends.Exhausted tip) = IsMessageThat (IsRefusedWrite mid.seat new (submits.Exhausted tip)) rest
+EndsBehind at rest left' mid new ends.NoCopy = IsMessageThat (IsWithoutCopy mid.seat new) rest
+EndsBehind at rest left' mid new ends.NoMemory = ((new ≡ mid.seat) × IsMessageBegun rest) ⊎ IsMessageThat (IsWithoutMemory mid new) rest
 
 -- The messages that were taken whole are those of the exchanges, in order, but for one without an exchange; the replies that were
--- written are those of the exchanges, in order; the transcript tells them; each came of one call of the seat; and the seat pushed
--- their writes and at most one more.
+-- written are those of the exchanges, in order; the transcript tells them; each came of the seat; and the seat pushed
+-- their writes and at most one more, pins aside. No pin is held at first.
 pub record Served (before after : Connection) (end : ServeEnd) : Type 0 where
   pub xs : List Exchange
   pub front : List ℕ
   pub rest : List ℕ
-  pub mid : Client
+  pub mid : Holder
   pub asked : Each IsMessageOf xs front
   pub took : Consumes before.left after.left (front ++ rest)
   pub within : length front + length rest ≤ MOST_SESSION_BYTES
-  pub exchanged : AreExchanged before.seat xs mid
+  pub exchanged : AreExchanged (holder before.seat None) xs mid
   pub behind : EndsBehind (length front) rest after.left mid after.seat end
   pub wrote : WroteRepliesUpTo end before.written after.written xs
   pub tells : TellsMore before.told after.told xs
-  pub pushed : PushesWrites before.seat mid after.seat (pushed_writes xs)
+  pub pushed : PushesWrites before.seat mid.seat after.seat (pushed_writes xs)
+
+-- the place that is held then is given back, unless the seat refuses that
+abbrev pub GivesBackLast : Client → Client → Type 0
+GivesBackLast old new = (new ≡ old) ⊎ ((place : ℤ) × (result : Result (Unit {0}) SubmitFault) × Unpins old new place result)
 
 -- the same of a seat, and of a source, a sink and a transcript, by what they tell
+abbrev pub ServesToEnd : {S K T : Type 0} → (S → Option (List ℕ)) → (K → Option (List ℕ)) → (T → Option (List Exchange)) → S → S → K → K → T → T → Client → Client → ServeEnd → Type 0
+ServesToEnd left written told source source' sink sink' transcript transcript' seat seat' end =
+    Served (connection (left source) (written sink) (told transcript) seat) (connection (left source') (written sink') (told transcript') seat') end
+
+-- and at its end the connection's place is given back
 abbrev pub ServesClient : {S K T : Type 0} → (S → Option (List ℕ)) → (K → Option (List ℕ)) → (T → Option (List Exchange)) → S → S → K → K → T → T → Client → Client → ServeEnd → Type 0
 ServesClient left written told source source' sink sink' transcript transcript' seat seat' end =
-    Served (connection (left source) (written sink) (told transcript) seat) (connection (left source') (written sink') (told transcript') seat') end
+    (last : Client) × ServesToEnd left written told source source' sink sink' transcript transcript' seat last end × GivesBackLast last seat'
+
+-- Of a seat that holds no place at first, it holds none at last, or one that it was refused to give back.
+pub data HoldsNoneBut (seat : Client) : Type 0 where
+  none : seat.held ≡ [] → HoldsNoneBut seat
+  one : (last : Client) (place : ℤ) (fault : SubmitFault) → last.held ≡ place ∷ [] → Unpins last seat place (Err fault) → HoldsNoneBut seat
+
+abbrev pub LeavesNone : Client → Client → Type 0
+LeavesNone old new = old.held ≡ [] → HoldsNoneBut new
 
 -- ---- where nothing failed
 

@@ -2,9 +2,12 @@
 #![tactic(auto)]
 
 mod calls;
+mod describing;
 mod end;
 mod exchange;
+pub mod laws;
 mod message;
+mod paging;
 mod reply;
 mod serving;
 mod transcript;

@@ -11,7 +11,7 @@ use std::thread::Threads;
 use testlib_words::RowFault;
 
 // How many rows there are.
-const COUNT: usize = 143;
+const COUNT: usize = 170;
 
 // Does what the row asks. Where that is the end, it answers how what came differs from what the row expects, if it does.
 fn do_row<R: Threads + Wait + Sync>(

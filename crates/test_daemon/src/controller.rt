@@ -6,7 +6,7 @@ use kr_base::{MemoryClock, MemorySource, NoMemory, OpenGate};
 use kr_calls::Event;
 use kr_local::LocalQuorum;
 use kr_server::{MemoryTranscript, ServeEnd, serve_client};
-use kr_shared::{ClientSeat, ClientSeats, LinkSeat, Turn, WorkerSeat, open};
+use kr_shared::{ClientSeat, ClientSeats, LinkSeat, MOST_PLACES, Turn, WorkerSeat, open};
 use kr_view::Opening;
 use std::alloc::{AllocError, Global};
 use std::sync::Wait;
@@ -185,6 +185,11 @@ fn connect<R: Wait>(
     sink: &mut ReplySink,
     done: &AtomicU64,
 ) -> (ServeEnd, usize) {
+    // A seat that is just opened holds none.
+    if seat.pins() >= MOST_PLACES {
+        done.store(1, Ordering::SeqCst);
+        return (ServeEnd::NoMemory, 0);
+    }
     let mut transcript = MemoryTranscript::new(alloc);
     let end = serve_client(rt, alloc, seat, source, sink, &mut transcript);
     done.store(1, Ordering::SeqCst);

@@ -60,10 +60,17 @@ pub(crate) fn heartbeat(broker: i32, epoch: i64, offset: i64) -> Call
 pub(crate) fn topic(alloc: Global, name: &str) -> Result<Call, NoMemory>
     ensures { IfOk result (λ call. IsTrue (not (is_read call.request))) }
 {
+    topic_of(alloc, name, 1)
+}
+
+// A topic of so many partitions.
+pub(crate) fn topic_of(alloc: Global, name: &str, partitions: i32) -> Result<Call, NoMemory>
+    ensures { IfOk result (λ call. IsTrue (not (is_read call.request))) }
+{
     let mut topics = CreatableTopics::new(alloc);
     topics.push(CreatableTopic {
         name: Text::from_str(alloc, name)?,
-        partitions: 1,
+        partitions,
         factor: 1,
         assignments: Rows::new(alloc),
         configs: Rows::new(alloc),

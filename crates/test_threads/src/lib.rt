@@ -14,6 +14,8 @@ mod many_clients;
 #[cfg(test)]
 mod open_transaction;
 #[cfg(test)]
+mod pages_beside_writes;
+#[cfg(test)]
 mod pinned_place;
 #[cfg(test)]
 mod setup;

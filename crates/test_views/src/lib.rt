@@ -5,6 +5,8 @@
 #[cfg(test)]
 mod copies;
 #[cfg(test)]
+mod pages;
+#[cfg(test)]
 mod pins;
 #[cfg(test)]
 mod queue;

@@ -4,6 +4,7 @@ ghost use Rattle.std.specs.Prelude.{◌≡◌, [], ◌∷◌, pos, OnOk};
 ghost use Rattle.kr_calls.specs.declared.events.Entry.TheVariants as entries;
 ghost use Rattle.kr_view.specs.StagedLaws.{HasNothing};
 
+use crate::pages::pages_show_both;
 use crate::shown::{options, partition, show_plain, stage_record, topic};
 use kr_base::NoMemory;
 use kr_calls::{Entry, Pin};
@@ -145,7 +146,8 @@ fn show_and_scan<R: Wait>(
     show_unpin(rt, publisher)?;
     show_topic(rt, alloc, publisher, "v", 8, 14)?;
     let second = sees_the_end(alloc, &mut seat)?;
-    Ok(first && second)
+    let third = pages_show_both(alloc, &mut seat)?;
+    Ok(first && second && third)
 }
 
 // At the pinned place there is nothing, at the end `u` 0, and no place between them is kept.
