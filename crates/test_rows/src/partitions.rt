@@ -108,10 +108,7 @@ fn read_change(
     fields: &mut Fields,
     change: &mut PartitionChange,
 ) -> Result<(), RowFault> {
-    change.in_sync = fields.ids_or_none(alloc)?;
-    change.replicas = fields.ids_or_none(alloc)?;
-    change.removing = fields.ids_or_none(alloc)?;
-    change.adding = fields.ids_or_none(alloc)?;
+    read_changed_lists(alloc, fields, change)?;
     change.eligible = fields.ids_or_none(alloc)?;
     change.last_known = fields.ids_or_none(alloc)?;
     change.leader = fields.number_or_none()?;
@@ -119,20 +116,38 @@ fn read_change(
     Ok(())
 }
 
-// The lists that are asked for, recovery and mode, and a broker that has restarted uncleanly.
-fn read_want(fields: &mut Fields, want: &mut Want) -> Result<(), RowFault> {
+fn read_changed_lists(
+    alloc: Global,
+    fields: &mut Fields,
+    change: &mut PartitionChange,
+) -> Result<(), RowFault> {
+    change.in_sync = fields.ids_or_none(alloc)?;
+    change.replicas = fields.ids_or_none(alloc)?;
+    change.removing = fields.ids_or_none(alloc)?;
+    change.adding = fields.ids_or_none(alloc)?;
+    Ok(())
+}
+
+// The replicas that are asked for, those to be added and to be removed, and those in sync.
+fn read_wanted(fields: &mut Fields, want: &mut Want) -> Result<(), RowFault> {
     fields.ids(&mut want.replicas)?;
     fields.ids(&mut want.adding)?;
     fields.ids(&mut want.removing)?;
-    fields.ids(&mut want.in_sync)?;
+    fields.ids(&mut want.in_sync)
+}
+
+// The lists that are asked for, recovery and mode, and a broker that has restarted uncleanly.
+fn read_want(fields: &mut Fields, want: &mut Want) -> Result<(), RowFault> {
+    read_wanted(fields, want)?;
     want.recovery = fields.number()?;
     want.mode = read_mode(fields)?;
     want.restarted = fields.number_or_none()?;
     Ok(())
 }
 
-// The active brokers, whether unclean election is on, and the least number in sync.
+// Behind a bar the active brokers, whether unclean election is on, and the least number in sync.
 fn read_facts(fields: &mut Fields, facts: &mut Facts) -> Result<(), RowFault> {
+    fields.bar()?;
     fields.ids(&mut facts.active)?;
     facts.unclean = fields.number()?;
     facts.minimum = fields.number()?;
@@ -141,31 +156,41 @@ fn read_facts(fields: &mut Fields, facts: &mut Facts) -> Result<(), RowFault> {
 
 /// PARTITION / CHANGE
 pub(crate) fn merge_row(alloc: Global, fields: &mut Fields) -> Result<String, RowFault> {
-    let mut partition = no_partition(alloc);
-    read_partition(fields, &mut partition)?;
+    merge(alloc, fields, &mut no_partition(alloc), &mut no_change())
+}
+
+fn merge(
+    alloc: Global,
+    fields: &mut Fields,
+    partition: &mut Partition,
+    change: &mut PartitionChange,
+) -> Result<String, RowFault> {
+    read_partition(fields, partition)?;
     fields.bar()?;
-    let mut change = no_change();
-    read_change(alloc, fields, &mut change)?;
-    Ok(merge_answer(alloc, &partition, &change)?)
+    read_change(alloc, fields, change)?;
+    Ok(merge_answer(alloc, partition, change)?)
 }
 
 pub(crate) fn target_row(alloc: Global, fields: &mut Fields) -> Result<String, RowFault> {
-    let mut partition = no_partition(alloc);
-    read_partition(fields, &mut partition)?;
-    Ok(target_answer(alloc, &partition)?)
+    target(alloc, fields, &mut no_partition(alloc))
 }
 
-// The replicas, those added, those removed and those in sync.
-fn read_reassignment(fields: &mut Fields, want: &mut Want) -> Result<(), RowFault> {
-    fields.ids(&mut want.replicas)?;
-    fields.ids(&mut want.adding)?;
-    fields.ids(&mut want.removing)?;
-    fields.ids(&mut want.in_sync)
+fn target(
+    alloc: Global,
+    fields: &mut Fields,
+    partition: &mut Partition,
+) -> Result<String, RowFault> {
+    read_partition(fields, partition)?;
+    Ok(target_answer(alloc, partition)?)
 }
 
+/// The replicas, those added, those removed and those in sync.
 pub(crate) fn completes_row(alloc: Global, fields: &mut Fields) -> Result<String, RowFault> {
-    let mut want = no_want(alloc);
-    read_reassignment(fields, &mut want)?;
+    completes(alloc, fields, &mut no_want(alloc))
+}
+
+fn completes(alloc: Global, fields: &mut Fields, want: &mut Want) -> Result<String, RowFault> {
+    read_wanted(fields, want)?;
     Ok(completes_answer(
         alloc,
         &want.replicas,
@@ -175,20 +200,15 @@ pub(crate) fn completes_row(alloc: Global, fields: &mut Fields) -> Result<String
     )?)
 }
 
-// PARTITION / the replicas, those in sync, the minimum and a restarted broker.
-fn read_standing_by(fields: &mut Fields, asked: &mut Asked) -> Result<(), RowFault> {
-    read_partition(fields, &mut asked.partition)?;
-    fields.bar()?;
-    fields.ids(&mut asked.want.replicas)?;
-    fields.ids(&mut asked.want.in_sync)?;
-    asked.facts.minimum = fields.number()?;
-    asked.want.restarted = fields.number_or_none()?;
-    Ok(())
+/// PARTITION / the replicas, those in sync, the minimum and a restarted broker.
+pub(crate) fn eligible_row(alloc: Global, fields: &mut Fields) -> Result<String, RowFault> {
+    eligible(alloc, fields, &mut Asked::nothing(alloc))
 }
 
-pub(crate) fn eligible_row(alloc: Global, fields: &mut Fields) -> Result<String, RowFault> {
-    let mut asked = Asked::nothing(alloc);
-    read_standing_by(fields, &mut asked)?;
+fn eligible(alloc: Global, fields: &mut Fields, asked: &mut Asked) -> Result<String, RowFault> {
+    read_standing_by(fields, asked)?;
+    asked.facts.minimum = fields.number()?;
+    asked.want.restarted = fields.number_or_none()?;
     Ok(eligible_answer(
         alloc,
         &asked.partition,
@@ -199,21 +219,24 @@ pub(crate) fn eligible_row(alloc: Global, fields: &mut Fields) -> Result<String,
     )?)
 }
 
-// PARTITION / the replicas, those in sync, the mode and a restarted broker / FACTS
-fn read_election(fields: &mut Fields, asked: &mut Asked) -> Result<(), RowFault> {
+// PARTITION / the replicas and those in sync.
+fn read_standing_by(fields: &mut Fields, asked: &mut Asked) -> Result<(), RowFault> {
     read_partition(fields, &mut asked.partition)?;
     fields.bar()?;
     fields.ids(&mut asked.want.replicas)?;
-    fields.ids(&mut asked.want.in_sync)?;
-    asked.want.mode = read_mode(fields)?;
-    asked.want.restarted = fields.number_or_none()?;
-    fields.bar()?;
-    read_facts(fields, &mut asked.facts)
+    fields.ids(&mut asked.want.in_sync)
 }
 
+/// PARTITION / the replicas, those in sync, the mode and a restarted broker / FACTS
 pub(crate) fn elect_row(alloc: Global, fields: &mut Fields) -> Result<String, RowFault> {
-    let mut asked = Asked::nothing(alloc);
-    read_election(fields, &mut asked)?;
+    elect(alloc, fields, &mut Asked::nothing(alloc))
+}
+
+fn elect(alloc: Global, fields: &mut Fields, asked: &mut Asked) -> Result<String, RowFault> {
+    read_standing_by(fields, asked)?;
+    asked.want.mode = read_mode(fields)?;
+    asked.want.restarted = fields.number_or_none()?;
+    read_facts(fields, &mut asked.facts)?;
     Ok(elect_answer(
         alloc,
         &asked.partition,
@@ -225,17 +248,15 @@ pub(crate) fn elect_row(alloc: Global, fields: &mut Fields) -> Result<String, Ro
     )?)
 }
 
-// PARTITION / WANT / FACTS
-fn read_build(fields: &mut Fields, asked: &mut Asked) -> Result<(), RowFault> {
+/// PARTITION / WANT / FACTS
+pub(crate) fn build_row(alloc: Global, fields: &mut Fields) -> Result<String, RowFault> {
+    build(alloc, fields, &mut Asked::nothing(alloc))
+}
+
+fn build(alloc: Global, fields: &mut Fields, asked: &mut Asked) -> Result<String, RowFault> {
     read_partition(fields, &mut asked.partition)?;
     fields.bar()?;
     read_want(fields, &mut asked.want)?;
-    fields.bar()?;
-    read_facts(fields, &mut asked.facts)
-}
-
-pub(crate) fn build_row(alloc: Global, fields: &mut Fields) -> Result<String, RowFault> {
-    let mut asked = Asked::nothing(alloc);
-    read_build(fields, &mut asked)?;
+    read_facts(fields, &mut asked.facts)?;
     Ok(build_answer(alloc, &asked.partition, &asked.want, &asked.facts)?)
 }
