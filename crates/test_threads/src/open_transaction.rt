@@ -1,6 +1,6 @@
 //! A leadership that is lost inside a transaction which another leader left open.
 
-use crate::threads::{Signs, TellingQuorum, options};
+use crate::threads::{Plan, Signs, TellingQuorum, options};
 use kr_base::{MemoryClock, OpenGate};
 use kr_calls::Event;
 use kr_defs::Bytes;
@@ -104,7 +104,11 @@ impl Stage<'_, '_> {
 fn a_transaction_outlasts_a_lost_leadership(rt: HostRuntime) -> Result<(), Fail> {
     let alloc = rt.alloc();
     let signs = Signs::new();
-    let mut quorum = TellingQuorum::new(alloc, vec![in alloc; 9]?, &signs)?;
+    let plan = Plan {
+        failing: 9,
+        last: 0,
+    };
+    let mut quorum = TellingQuorum::new(alloc, plan, &signs)?;
     let mut opening = Opening::new();
     let options = options(alloc)?;
     let opened = open(&rt, alloc, &mut opening, options, 1);

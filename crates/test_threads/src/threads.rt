@@ -23,7 +23,7 @@ pub(crate) trait Part {
 
 // What the threads tell the link's.
 #[derive(Drop)]
-struct Signs {
+pub(crate) struct Signs {
     // Where the quorum's log ends.
     end: AtomicI64,
     // All clients are done, or the worker is to be stopped.
@@ -35,7 +35,7 @@ struct Signs {
 }
 
 impl Signs {
-    fn new() -> Signs {
+    pub(crate) fn new() -> Signs {
         Signs {
             end: AtomicI64::new(0),
             done: AtomicBool::new(false),
@@ -63,14 +63,18 @@ pub(crate) const COMMITS: Plan = Plan {
 // It keeps what is appended, and tells where the log ends. Where an append fails or a number of them stops the worker it tells
 // nothing, so that nothing is committed.
 #[derive(Drop)]
-struct TellingQuorum<'a> {
-    kept: MemoryQuorum,
+pub(crate) struct TellingQuorum<'a> {
+    pub kept: MemoryQuorum,
     plan: Plan,
     signs: &'a Signs,
 }
 
 impl TellingQuorum<'_> {
-    fn new(alloc: Global, plan: Plan, signs: &Signs) -> Result<TellingQuorum<'_>, NoMemory> {
+    pub(crate) fn new(
+        alloc: Global,
+        plan: Plan,
+        signs: &Signs,
+    ) -> Result<TellingQuorum<'_>, NoMemory> {
         let failing = vec![in alloc; plan.failing]?;
         Ok(TellingQuorum {
             kept: MemoryQuorum::new(alloc, 1_000_000, 4_000, failing)?,
