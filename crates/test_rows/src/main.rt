@@ -2,16 +2,9 @@
 //! words. A row that differs is printed, and at the end how many rows of each kind hold.
 #![tactic(auto)]
 
-mod answers;
-mod codecs;
-mod heartbeats;
-mod image_text;
 mod kinds;
 mod moves;
-mod partitions;
-mod places;
 mod rows;
-mod stores;
 mod tellings;
 mod walks;
 

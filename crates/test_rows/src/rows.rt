@@ -1,16 +1,16 @@
 //! What a row asks, read from its fields, and the answer.
 
-use crate::codecs::{
+use crate::kinds::Kind;
+use crate::walks::{moves_row, nodes_row};
+use std::alloc::Global;
+use testlib_codec_answers::{
     balance_row, batch_row, dump_row, fold_row, image_row, message_row, primitive_row, record_row,
     session_row,
 };
-use crate::heartbeats::heartbeats_row;
-use crate::kinds::Kind;
-use crate::partitions::{build_row, completes_row, elect_row, eligible_row, merge_row, target_row};
-use crate::places::place_row;
-use crate::stores::apply_row;
-use crate::walks::{moves_row, nodes_row};
-use std::alloc::Global;
+use testlib_rule_rows::{
+    apply_row, build_row, completes_row, elect_row, eligible_row, heartbeats_row, merge_row,
+    place_row, target_row,
+};
 use testlib_words::{Fields, RowFault};
 
 /// The answer to what a row of this kind asks.

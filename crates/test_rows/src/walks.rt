@@ -3,13 +3,13 @@
 ghost use Rattle.std.specs.Prelude.{IfOk};
 ghost use Rattle.kr_nodes.specs.Standing.{IsReadyCluster, IsWriteMove};
 
-use crate::heartbeats::MOST_OPERATIONS;
 use crate::moves::{Asked, asked_of, outcome_text};
 use crate::tellings::add_told;
 use kr_drive::{drive, summary_text};
 use kr_nodes::{Cluster, MoveFault};
 use kr_workload::options;
 use std::alloc::{AllocError, Global};
+use testlib_rule_rows::MOST_OPERATIONS;
 use testlib_words::{Fields, RowFault};
 
 /// The number of nodes, the number of which their options are, and moves, with a slash before each: what comes of each, with

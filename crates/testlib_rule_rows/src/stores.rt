@@ -25,7 +25,7 @@ struct Told {
 
 /// What a store is told and asked, each a word and what belongs to it. The first record stands at place 0, each other
 /// behind the last that has a meaning.
-pub(crate) fn apply_row(alloc: Global, fields: &mut Fields) -> Result<String, RowFault> {
+pub fn apply_row(alloc: Global, fields: &mut Fields) -> Result<String, RowFault> {
     let mut told = Told {
         history: History::new(alloc),
         place: 0,

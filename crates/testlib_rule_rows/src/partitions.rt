@@ -154,8 +154,8 @@ fn read_facts(fields: &mut Fields, facts: &mut Facts) -> Result<(), RowFault> {
     Ok(())
 }
 
-/// PARTITION / CHANGE
-pub(crate) fn merge_row(alloc: Global, fields: &mut Fields) -> Result<String, RowFault> {
+/// A partition, a bar and a change: the partition after it.
+pub fn merge_row(alloc: Global, fields: &mut Fields) -> Result<String, RowFault> {
     merge(alloc, fields, &mut no_partition(alloc), &mut no_change())
 }
 
@@ -171,7 +171,8 @@ fn merge(
     Ok(merge_answer(alloc, partition, change)?)
 }
 
-pub(crate) fn target_row(alloc: Global, fields: &mut Fields) -> Result<String, RowFault> {
+/// A partition: the replicas that its reassignment leads to.
+pub fn target_row(alloc: Global, fields: &mut Fields) -> Result<String, RowFault> {
     target(alloc, fields, &mut no_partition(alloc))
 }
 
@@ -184,8 +185,8 @@ fn target(
     Ok(target_answer(alloc, partition)?)
 }
 
-/// The replicas, those added, those removed and those in sync.
-pub(crate) fn completes_row(alloc: Global, fields: &mut Fields) -> Result<String, RowFault> {
+/// The replicas, those added, those removed and those in sync: whether the reassignment completes.
+pub fn completes_row(alloc: Global, fields: &mut Fields) -> Result<String, RowFault> {
     completes(alloc, fields, &mut no_want(alloc))
 }
 
@@ -200,8 +201,8 @@ fn completes(alloc: Global, fields: &mut Fields, want: &mut Want) -> Result<Stri
     )?)
 }
 
-/// PARTITION / the replicas, those in sync, the minimum and a restarted broker.
-pub(crate) fn eligible_row(alloc: Global, fields: &mut Fields) -> Result<String, RowFault> {
+/// A partition, a bar, the replicas, those in sync, the minimum and a restarted broker: the eligible and the last known replicas.
+pub fn eligible_row(alloc: Global, fields: &mut Fields) -> Result<String, RowFault> {
     eligible(alloc, fields, &mut Asked::nothing(alloc))
 }
 
@@ -219,7 +220,7 @@ fn eligible(alloc: Global, fields: &mut Fields, asked: &mut Asked) -> Result<Str
     )?)
 }
 
-// PARTITION / the replicas and those in sync.
+// A partition, a bar, the replicas and those in sync.
 fn read_standing_by(fields: &mut Fields, asked: &mut Asked) -> Result<(), RowFault> {
     read_partition(fields, &mut asked.partition)?;
     fields.bar()?;
@@ -227,8 +228,9 @@ fn read_standing_by(fields: &mut Fields, asked: &mut Asked) -> Result<(), RowFau
     fields.ids(&mut asked.want.in_sync)
 }
 
-/// PARTITION / the replicas, those in sync, the mode and a restarted broker / FACTS
-pub(crate) fn elect_row(alloc: Global, fields: &mut Fields) -> Result<String, RowFault> {
+/// A partition, a bar, the replicas, those in sync, the mode and a restarted broker, and the facts: the leader, and among whom it
+/// was found.
+pub fn elect_row(alloc: Global, fields: &mut Fields) -> Result<String, RowFault> {
     elect(alloc, fields, &mut Asked::nothing(alloc))
 }
 
@@ -248,8 +250,8 @@ fn elect(alloc: Global, fields: &mut Fields, asked: &mut Asked) -> Result<String
     )?)
 }
 
-/// PARTITION / WANT / FACTS
-pub(crate) fn build_row(alloc: Global, fields: &mut Fields) -> Result<String, RowFault> {
+/// A partition, a bar, what is asked of it, and the facts: the change.
+pub fn build_row(alloc: Global, fields: &mut Fields) -> Result<String, RowFault> {
     build(alloc, fields, &mut Asked::nothing(alloc))
 }
 
