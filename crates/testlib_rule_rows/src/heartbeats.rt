@@ -6,7 +6,7 @@ use testlib_rule_answers::{Operation, heartbeats_answer};
 use testlib_words::{Fields, RowFault};
 
 /// A row has at most so many operations.
-pub const MOST_OPERATIONS: u32 = 2_000;
+pub(crate) const MOST_OPERATIONS: u32 = 2_000;
 
 /// Operations, each a word and what it is told: the contacts and the stopping brokers after them.
 pub fn heartbeats_row(alloc: Global, fields: &mut Fields) -> Result<String, RowFault> {
