@@ -46,6 +46,7 @@ fn does_next<R: Wait>(
 }
 
 // A worker with its link and a client.
+#[derive(Drop)]
 struct Stage<'a, 'q> {
     alloc: Global,
     worker: &'a mut WorkerSeat,
