@@ -92,12 +92,14 @@ impl Stage<'_, '_> {
 
     fn plays<R: Threads + Wait + Sync>(&mut self, rt: &R) -> Result<bool, Fail> {
         let (begun, ended) = (batch(self.alloc, BEGUN)?, batch(self.alloc, ENDED)?);
-        Ok(self.takes(rt, begun)
-            && self.leads_in_vain(rt)
-            && self.pins(rt, 0)
-            && self.takes(rt, ended)
-            && self.sees(0, 0)
-            && self.sees(3, 1))
+        Ok(
+            self.takes(rt, begun)
+                && self.leads_in_vain(rt)
+                && self.pins(rt, 0)
+                && self.takes(rt, ended)
+                && self.sees(0, 0)
+                && self.sees(3, 1),
+        )
     }
 }
 

@@ -9,6 +9,6 @@ mod places;
 mod stores;
 
 pub use heartbeats::heartbeats_row;
-pub use partitions::{build_row, completes_row, elect_row, eligible_row, merge_row, target_row};
+pub use partitions::{Question, change_row};
 pub use places::place_row;
 pub use stores::apply_row;

@@ -1,4 +1,4 @@
-//! Rows on changes of partitions.
+//! Rows on partitions.
 
 use kr_defs::{Facts, Ids, Mode, Partition, PartitionChange, Want};
 use std::alloc::Global;
@@ -7,10 +7,30 @@ use testlib_rule_answers::{
 };
 use testlib_words::{Fields, RowFault};
 
-/// A partition, and what is asked of it.
+/// What is asked of a partition.
+#[derive(Clone, Copy)]
+pub enum Question {
+    /// The partition, a bar and a change: the partition after it.
+    Merge,
+    /// The partition: the replicas that its reassignment leads to.
+    Target,
+    /// The replicas, those added, those removed and those in sync: whether the reassignment completes.
+    Completes,
+    /// The partition, a bar, the replicas, those in sync, the minimum and a restarted broker: the eligible and the last known
+    /// replicas.
+    Eligible,
+    /// The partition, a bar, the replicas, those in sync, the mode and a restarted broker, and the facts: the leader, and among
+    /// whom it was found.
+    Elect,
+    /// The partition, a bar, what is to come of it, and the facts: the change.
+    Build,
+}
+
+// A partition, and what is asked of it.
 #[derive(Drop)]
 struct Asked {
     partition: Partition,
+    change: PartitionChange,
     want: Want,
     facts: Facts,
 }
@@ -67,6 +87,7 @@ impl Asked {
     fn nothing(alloc: Global) -> Asked {
         Asked {
             partition: no_partition(alloc),
+            change: no_change(),
             want: no_want(alloc),
             facts: no_facts(alloc),
         }
@@ -154,40 +175,42 @@ fn read_facts(fields: &mut Fields, facts: &mut Facts) -> Result<(), RowFault> {
     Ok(())
 }
 
-/// A partition, a bar and a change: the partition after it.
-pub fn merge_row(alloc: Global, fields: &mut Fields) -> Result<String, RowFault> {
-    merge(alloc, fields, &mut no_partition(alloc), &mut no_change())
+/// The answer to the question, whose fields these are.
+pub fn change_row(
+    alloc: Global,
+    question: Question,
+    fields: &mut Fields,
+) -> Result<String, RowFault> {
+    let mut asked = Asked::nothing(alloc);
+    answer(alloc, question, fields, &mut asked)
 }
 
-fn merge(
+fn answer(
     alloc: Global,
+    question: Question,
     fields: &mut Fields,
-    partition: &mut Partition,
-    change: &mut PartitionChange,
+    asked: &mut Asked,
 ) -> Result<String, RowFault> {
-    read_partition(fields, partition)?;
+    match question {
+        Question::Merge => merge(alloc, fields, asked),
+        Question::Target => target(alloc, fields, asked),
+        Question::Completes => completes(alloc, fields, &mut asked.want),
+        Question::Eligible => eligible(alloc, fields, asked),
+        Question::Elect => elect(alloc, fields, asked),
+        Question::Build => build(alloc, fields, asked),
+    }
+}
+
+fn merge(alloc: Global, fields: &mut Fields, asked: &mut Asked) -> Result<String, RowFault> {
+    read_partition(fields, &mut asked.partition)?;
     fields.bar()?;
-    read_change(alloc, fields, change)?;
-    Ok(merge_answer(alloc, partition, change)?)
+    read_change(alloc, fields, &mut asked.change)?;
+    Ok(merge_answer(alloc, &asked.partition, &asked.change)?)
 }
 
-/// A partition: the replicas that its reassignment leads to.
-pub fn target_row(alloc: Global, fields: &mut Fields) -> Result<String, RowFault> {
-    target(alloc, fields, &mut no_partition(alloc))
-}
-
-fn target(
-    alloc: Global,
-    fields: &mut Fields,
-    partition: &mut Partition,
-) -> Result<String, RowFault> {
-    read_partition(fields, partition)?;
-    Ok(target_answer(alloc, partition)?)
-}
-
-/// The replicas, those added, those removed and those in sync: whether the reassignment completes.
-pub fn completes_row(alloc: Global, fields: &mut Fields) -> Result<String, RowFault> {
-    completes(alloc, fields, &mut no_want(alloc))
+fn target(alloc: Global, fields: &mut Fields, asked: &mut Asked) -> Result<String, RowFault> {
+    read_partition(fields, &mut asked.partition)?;
+    Ok(target_answer(alloc, &asked.partition)?)
 }
 
 fn completes(alloc: Global, fields: &mut Fields, want: &mut Want) -> Result<String, RowFault> {
@@ -199,11 +222,6 @@ fn completes(alloc: Global, fields: &mut Fields, want: &mut Want) -> Result<Stri
         &want.removing,
         &want.in_sync,
     )?)
-}
-
-/// A partition, a bar, the replicas, those in sync, the minimum and a restarted broker: the eligible and the last known replicas.
-pub fn eligible_row(alloc: Global, fields: &mut Fields) -> Result<String, RowFault> {
-    eligible(alloc, fields, &mut Asked::nothing(alloc))
 }
 
 fn eligible(alloc: Global, fields: &mut Fields, asked: &mut Asked) -> Result<String, RowFault> {
@@ -228,12 +246,6 @@ fn read_standing_by(fields: &mut Fields, asked: &mut Asked) -> Result<(), RowFau
     fields.ids(&mut asked.want.in_sync)
 }
 
-/// A partition, a bar, the replicas, those in sync, the mode and a restarted broker, and the facts: the leader, and among whom it
-/// was found.
-pub fn elect_row(alloc: Global, fields: &mut Fields) -> Result<String, RowFault> {
-    elect(alloc, fields, &mut Asked::nothing(alloc))
-}
-
 fn elect(alloc: Global, fields: &mut Fields, asked: &mut Asked) -> Result<String, RowFault> {
     read_standing_by(fields, asked)?;
     asked.want.mode = read_mode(fields)?;
@@ -248,11 +260,6 @@ fn elect(alloc: Global, fields: &mut Fields, asked: &mut Asked) -> Result<String
         asked.want.restarted,
         &asked.facts,
     )?)
-}
-
-/// A partition, a bar, what is asked of it, and the facts: the change.
-pub fn build_row(alloc: Global, fields: &mut Fields) -> Result<String, RowFault> {
-    build(alloc, fields, &mut Asked::nothing(alloc))
 }
 
 fn build(alloc: Global, fields: &mut Fields, asked: &mut Asked) -> Result<String, RowFault> {
