@@ -206,8 +206,8 @@ pub(crate) fn push_outcome(
     }
 }
 
-// A space, and the number.
-fn push_number(alloc: Global, number: i64, text: &mut String) -> Result<(), AllocError> {
+/// A space, and the number.
+pub(crate) fn push_number(alloc: Global, number: i64, text: &mut String) -> Result<(), AllocError> {
     let digits = format!(in alloc; " {number}")?;
     text.push_str(&digits)
 }
