@@ -39,13 +39,13 @@ asks_unclean other = false
 -- ---- reports, each with the answer that stands in its place
 
 -- the report was taken: Kafka's NONE, or NEW_LEADER_ELECTED where by this very report another broker leads
-abbrev pub is_taken : AlterPartitionResult → Bool
-is_taken answer = int_eq answer.error (pos 0) || int_eq answer.error NEW_LEADER_ELECTED
+abbrev pub is_report_taken : AlterPartitionResult → Bool
+is_report_taken answer = int_eq answer.error (pos 0) || int_eq answer.error NEW_LEADER_ELECTED
 
 -- a report of the partition was accepted on this image, and taken, and has the broker
 abbrev pub is_report_with : ℤ → Image → ℤ → Partition → ℤ → PartitionReport × AlterPartitionResult → Bool
 is_report_with broker image index p leader (report, answer) =
-    int_eq report.index index && is_taken answer && is_accepted broker image p report && has (members report) leader
+    int_eq report.index index && is_report_taken answer && is_accepted broker image p report && has (members report) leader
 
 abbrev pub is_reported_in : ℤ → Image → ℕ × ℤ → Partition → ℤ → AlterPartitionTopic × AlterPartitionTopicResult → Bool
 is_reported_in broker image key p leader (topic, answers) =

@@ -38,6 +38,21 @@ pub enum Request {
     Metadata(Metadata),
 }
 
+impl Request {
+    ghost use Rattle.std.specs.Prelude.{◌≡◌};
+    ghost use Rattle.kr_calls.specs.Decide as rules;
+
+    /// Whether it changes nothing, and is answered on the committed image.
+    pub fn is_read(&self) -> bool
+        ensures { result ≡ rules.is_read self.now }
+    {
+        match self {
+            Request::ListPartitionReassignments(_) | Request::Metadata(_) => true,
+            _ => false,
+        }
+    }
+}
+
 // By hand: a crate that drops one calls this, where a derived drop is made and proved in each such crate anew.
 impl Drop for Request {
     fn drop(self) {

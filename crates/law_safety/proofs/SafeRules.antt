@@ -61,7 +61,7 @@ use Rattle.kr_calls.specs.ElectLeaders as elect_leaders
 use Rattle.kr_calls.specs.IncrementalAlterConfigs as incremental_alter_configs
 use Rattle.kr_calls.specs.NewPartitions.{new_partitions}
 use Rattle.kr_calls.specs.Refuse.{refused_incremental_alter_configs}
-use Rattle.kr_calls.specs.SafeChange.{Exchange, is_reassigned, is_report_with, is_taken}
+use Rattle.kr_calls.specs.SafeChange.{Exchange, is_reassigned, is_report_with, is_report_taken}
 use Rattle.kr_calls.specs.TakingOut.{taken_out}
 use Rattle.kr_calls.specs.UnregisterBroker as unregister_broker
 use Rattle.law_safety.specs.SafeChangeLaws.{AreSafe}
@@ -197,13 +197,13 @@ drafted_change : (broker : ℤ) (entry : alter_partition.Entry) (p : Partition) 
 drafted_change broker entry p None = refl
 drafted_change broker entry p (Some change) = refl
 
-taken_result : (broker : ℤ) (entry : alter_partition.Entry) (p : Partition) → is_taken (alter_partition.partition_result broker entry p) ≡ true
-taken_result broker entry p = elim (int_eq p.leader broker) as (λ b. is_taken (cond b (record { index = entry.1.index; error = pos 0; leader = p.leader; leader_epoch = p.leader_epoch; in_sync = p.in_sync; recovery = p.recovery; partition_epoch = p.partition_epoch }) (alter_partition.refused NEW_LEADER_ELECTED entry)) ≡ true) [
+taken_result : (broker : ℤ) (entry : alter_partition.Entry) (p : Partition) → is_report_taken (alter_partition.partition_result broker entry p) ≡ true
+taken_result broker entry p = elim (int_eq p.leader broker) as (λ b. is_report_taken (cond b (record { index = entry.1.index; error = pos 0; leader = p.leader; leader_epoch = p.leader_epoch; in_sync = p.in_sync; recovery = p.recovery; partition_epoch = p.partition_epoch }) (alter_partition.refused NEW_LEADER_ELECTED entry)) ≡ true) [
   | true ↦ refl
   | false ↦ refl
 ]
 
-taken_draft : (broker : ℤ) (entry : alter_partition.Entry) (p : Partition) (o : Option PartitionChange) → is_taken (alter_partition.drafted broker entry p o).answer ≡ true
+taken_draft : (broker : ℤ) (entry : alter_partition.Entry) (p : Partition) (o : Option PartitionChange) → is_report_taken (alter_partition.drafted broker entry p o).answer ≡ true
 taken_draft broker entry p None = taken_result broker entry p
 taken_draft broker entry p (Some change) = taken_result broker entry (merged p change)
 
