@@ -29,7 +29,7 @@ use Rattle.kr_model.specs.Engine.{IsEngine, IsState, Rise}
 use Rattle.kr_model.specs.Events.{at_time_of, happens, state}
 use Rattle.kr_model.specs.Lead.{after_lead, may_begin_at}
 use Rattle.kr_model.specs.Lost.{after_lost}
-use Rattle.kr_model.specs.Outputs.{is_open, is_open_in, outputs_of, waiting_after, waiting_writes, writes_from}
+use Rattle.kr_model.specs.Outputs.{is_open, is_open_in, outputs, outputs_of, waiting_writes, writes_from}
 use Rattle.kr_model.specs.Reasons as reasons
 use Rattle.kr_model.specs.Request.{after_ask, after_write, decision, is_decided}
 use Rattle.kr_model.specs.World.{State, World, closed_of, image_of_tip, is_far, leads_in, start, tip_of}
@@ -47,6 +47,7 @@ use Rattle.kr_workload.specs.Requests.{election, note, reassignment, report}
 use Rattle.kr_workload.specs.Session.{Made, act, after_draw, ask, ask_and_commit, chances, commit_all, create, fail_over, first_heartbeat, lead_next, lose, made_session, nothing_made, open_session, options, play_round, register, request_event, send_heartbeat, send_report, state_behind, steps}
 use Rattle.kr_workload.specs.Summary.{replies, replies_of, summary}
 use Rattle.kr_workload.specs.inner.Standing.{HasMade, IsMade}
+use Rattle.kr_workload.proofs.Counts.{joined}
 use Rattle.kr_workload.proofs.FewRecords.{few_places}
 use Rattle.kr_workload.proofs.FewReplies.{all_replies, asked}
 use Rattle.kr_workload.proofs.Lengths.{session_few}
@@ -63,8 +64,8 @@ filter_twice p (write ∷ writes) =
     ] refl
 
 -- the replies of events, and the writes that wait behind them
-abbrev told : Options → List Event → ℕ
-told options events = length (replies options events) + length (waiting_writes options events)
+abbrev replied : Options → List Event → ℕ
+replied options events = length (replies options events) + length (waiting_writes options events)
 
 module _ (options : Options) (past : List Event) (event : Event) (made : IsMade event) where
   abbrev s : State
@@ -73,9 +74,9 @@ module _ (options : Options) (past : List Event) (event : Event) (made : IsMade 
   abbrev waiting : List Write
   waiting = waiting_writes options past
 
-  told_more : is_far (pos (tip_of s)) ≡ false → told options (past ++ event ∷ []) ≡ told options past + asked event
+  told_more : is_far (pos (tip_of s)) ≡ false → replied options (past ++ event ∷ []) ≡ replied options past + asked event
   told_more near =
-      let given = ap replies_of (all_behind options past event) ∙ flat_map-append _ _ (outputs_of options s waiting event) in
+      let given = ap replies_of (all_behind options past event) ∙ flat_map-append _ (joined (outputs options past)) (outputs_of options s waiting event) in
       let long = ap (λ (l : List Reply). length l) given ∙ length-append (replies options past) (replies_of (outputs_of options s waiting event)) in
       let waits = ap (λ (l : List Write). length l) (waiting_then options past event (holds options past)) in
       let all = all_replies options s waiting event made (filter_twice (is_open_in s.world) (writes_from options start past)) near in
@@ -158,7 +159,7 @@ module _ (options : Options) (s : State) where
 -- ---- a session so far
 
 pub record IsAnswered (seed : ℕ) (made : Made) : Type 0 where
-  pub told : length made.events ≤ 10000000000 → told (options seed) made.events ≡ made.requests
+  pub told : length made.events ≤ 10000000000 → replied (options seed) made.events ≡ made.requests
   pub low : tip_of (state_behind seed made) ≤ length made.events * MOST_RECORDS
   pub led : LeadsOnly (state_behind seed made).world (pos made.epoch)
 
@@ -187,7 +188,7 @@ module _ (seed : ℕ) where
     below : now.world.committed ≤ tip_of now
     below = not_higher now.world.committed now.world.batch_ends (tip_of now) orderly
 
-    told_then : (event : Event) → IsMade event → length (made.events ++ event ∷ []) ≤ 10000000000 → told (options seed) (made.events ++ event ∷ []) ≡ made.requests + asked event
+    told_then : (event : Event) → IsMade event → length (made.events ++ event ∷ []) ≤ 10000000000 → replied (options seed) (made.events ++ event ∷ []) ≡ made.requests + asked event
     told_then event is_made few =
         let long = length-append made.events (event ∷ []) in
         let before = k.told (omega (arith, few, long)) in
@@ -350,9 +351,9 @@ apart (pos m) n more less = grind (arith, nat_tests)
 apart (negsuc m) n more less = absurd cc
 
 none_above : (leading : Option ℤ) (end : ℕ) (writes : List Write) → list_all (is_open leading (pos end)) writes ≡ true → AllByRecursion (λ (write : Write). int_le write.need (pos end) ≡ true) writes → writes ≡ []
-none_above leading end [] open low = refl
-none_above leading end (write ∷ writes) open low =
-    let first = (both (is_open leading (pos end) write) (list_all (is_open leading (pos end)) writes) open).0 in
+none_above leading end [] waits_all low = refl
+none_above leading end (write ∷ writes) waits_all low =
+    let first = (both (is_open leading (pos end) write) (list_all (is_open leading (pos end)) writes) waits_all).0 in
     absurd (apart write.need end (both (leads_in leading write.epoch) (int_lt (pos end) write.need) first).1 low.0)
 
 module _ (s : State) (writes : List Write) (k : IsState s (filter (is_open_in s.world) writes)) where
@@ -364,9 +365,9 @@ module _ (s : State) (writes : List Write) (k : IsState s (filter (is_open_in s.
   all_closed (Some epoch) led all =
       let decided = k.decided (subst (λ (l : Option ℤ). IsSome l) (sym led) refl) in
       let closed : closed_of s.world ≡ tip_of s = ap (λ (n : ℕ). unwrap_or (open_at s.world.log n) n) all ∙ ap (λ (o : Option ℕ). unwrap_or o (tip_of s)) decided in
-      let open : list_all (is_open s.world.leading (pos (tip_of s))) waits ≡ true =
+      let waits_all : list_all (is_open s.world.leading (pos (tip_of s))) waits ≡ true =
       ap (λ (n : ℕ). list_all (is_open s.world.leading (pos n)) waits) (sym closed) ∙ all_open (is_open_in s.world) writes in
-      none_above s.world.leading (tip_of s) waits open (recursion_from_All (λ write. int_le write.need (pos (tip_of s)) ≡ true) waits k.reached)
+      none_above s.world.leading (tip_of s) waits waits_all (recursion_from_All (λ write. int_le write.need (pos (tip_of s)) ≡ true) waits k.reached)
 
   none_waits : IsSettled s.world → waits ≡ []
   none_waits settled = elim settled [
@@ -387,8 +388,8 @@ all_answered seed rounds made host stands is few found same =
     let waits = ap (λ (l : List Write). length l) none in
     let all = rests.answered.told few in
     let asked = ap (λ (m : Made). m.requests) is in
-    let told = ap (λ (m : Made). length (replies (options seed) m.events)) is in
+    let same_replies = ap (λ (m : Made). length (replies (options seed) m.events)) is in
     let ok = ap (λ (x : Summary). x.ok) same in
     let refused = ap (λ (x : Summary). x.refused) same in
     let parts = length-filter_both is_ok (λ (reply : Reply). not (is_ok reply)) (λ reply. refl) (replies (options seed) (made_session seed rounds).events) in
-    omega (arith, waits, all, asked, told, ok, refused, parts)
+    omega (arith, waits, all, asked, same_replies, ok, refused, parts)

@@ -156,10 +156,10 @@ module _ (options : Options) (s : State) (writes : List Write) (event : Event) w
   -- all of these wait before the event, and a request isn't refused
   all_by : HasOne options s event → filter (is_open_in s.world) writes ≡ writes → (r : Result State Reason) → (asked event ≡ 1 → IsOk r) → AllBy r ≡ length writes + asked event
   unfolding AllBy waits
-  all_by has open (Ok after) ok = taken has after
-  all_by has open (Err reason) ok =
+  all_by has all_wait (Ok after) ok = taken has after
+  all_by has all_wait (Err reason) ok =
       let same : length (filter (is_open_in s.world) (writes ++ [])) ≡ length writes =
-      ap (λ (l : List Write). length (filter (is_open_in s.world) l)) (append-nil writes) ∙ ap (λ (l : List Write). length l) open in
+      ap (λ (l : List Write). length (filter (is_open_in s.world) l)) (append-nil writes) ∙ ap (λ (l : List Write). length l) all_wait in
       let none : count (outputs_by options s writes event (Err reason)) ≡ 0 = counts_refused (next_number s.world.count) reason in
       let no_request : asked event ≡ 0 = none_asked (asked event) (asked_once event) (λ one. let no : false ≡ true = ok one in absurd cc) in
       omega (arith, same, none, no_request)
@@ -216,6 +216,6 @@ taken_if options s events.Image near one = absurd (omega (arith, one))
 pub all_replies : (options : Options) (s : State) (writes : List Write) (event : Event) → IsMade event → filter (is_open_in s.world) writes ≡ writes → is_far (pos (tip_of s)) ≡ false
     → length (replies_of (outputs_of options s writes event)) + length (waiting_after options s writes event) ≡ length writes + asked event
 unfolding count AllBy waits
-all_replies options s writes event made open near =
+all_replies options s writes event made all_wait near =
     let here = at_time_of s event in
-    all_by options here writes event (has_one options here event made) open (outcome options here event) (taken_if options s event near)
+    all_by options here writes event (has_one options here event made) all_wait (outcome options here event) (taken_if options s event near)
