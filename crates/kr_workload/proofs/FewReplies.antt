@@ -85,16 +85,7 @@ read_told : (options : Options) (image : Image) (request : Request) → is_read 
 unfolding query
 read_told options image (requests.ListPartitionReassignments q) read = refl
 read_told options image (requests.Metadata q) read = refl
-read_told options image (requests.BrokerRegistration q) read = absurd cc
-read_told options image (requests.BrokerHeartbeat q) read = absurd cc
-read_told options image (requests.UnregisterBroker q) read = absurd cc
-read_told options image (requests.CreateTopics q) read = absurd cc
-read_told options image (requests.DeleteTopics q) read = absurd cc
-read_told options image (requests.CreatePartitions q) read = absurd cc
-read_told options image (requests.AlterPartition q) read = absurd cc
-read_told options image (requests.ElectLeaders q) read = absurd cc
-read_told options image (requests.AlterPartitionReassignments q) read = absurd cc
-read_told options image (requests.IncrementalAlterConfigs q) read = absurd cc
+read_told options image other read = absurd cc
 
 -- how many requests an event is
 abbrev pub asked : Event → ℕ
