@@ -100,10 +100,10 @@ refused_or P at cause true rest refused done = refused refl
 refused_or P at cause false rest refused done = done refl
 
 nobody : (leading : Option ℤ) (epoch : ℤ) → ((e : ℤ) → leading ≡ Some e → e ≡ epoch) → leads_in leading epoch ≡ false → leading ≡ None
-nobody None epoch only no = refl
-nobody (Some led) epoch only no =
+nobody None epoch only isnt = refl
+nobody (Some led) epoch only isnt =
     let leads : int_eq led epoch ≡ true = ap (λ (z : ℤ). int_eq led z) (sym (only led refl)) ∙ id_itself led in
-    absurd (let none = sym leads ∙ no in cc)
+    absurd (let none = sym leads ∙ isnt in cc)
 
 -- the last of rising places is the end
 last_is : (from : ℕ) (ns : List ℕ) (to : ℕ) → Rise from ns to → (int_eq (pos to) (pos from) || list_any (λ n. int_eq (pos to) (pos n)) ns) ≡ true
@@ -127,7 +127,7 @@ module _ (options : Options) (s : State) where
   ends epoch only =
       let at = at_time_of s (events.Lost epoch) in
       let P : State → Type 0 = λ t. t.world.leading ≡ None in
-      refused_or P at (reasons.not_leading epoch at.world.leading) (not (leads_in at.world.leading epoch)) (Ok (after_lost at)) (λ no. nobody at.world.leading epoch only (not_true _ no)) (λ _. refl)
+      refused_or P at (reasons.not_leading epoch at.world.leading) (not (leads_in at.world.leading epoch)) (Ok (after_lost at)) (λ isnt. nobody at.world.leading epoch only (not_true _ isnt)) (λ _. refl)
 
   commits : (epoch end : ℤ) → (happens options s (events.Commit epoch end)).world.leading ≡ s.world.leading
   commits epoch end =
@@ -141,9 +141,9 @@ module _ (options : Options) (s : State) where
       let end = pos (tip_of s) in
       let at = at_time_of s (events.Commit epoch end) in
       let P : State → Type 0 = λ t. IsSettled t.world in
-      refused_or P at (reasons.not_leading epoch at.world.leading) (not (leads_in at.world.leading epoch)) _ (λ no. inl (nobody at.world.leading epoch only (not_true _ no))) (λ _.
+      refused_or P at (reasons.not_leading epoch at.world.leading) (not (leads_in at.world.leading epoch)) _ (λ isnt. inl (nobody at.world.leading epoch only (not_true _ isnt))) (λ _.
       refused_or P at (reasons.bad_commit end (pos at.world.committed) (pos (tip_of at))) (not (is_end at.world end)) (Ok (after_commit at end))
-      (λ no. absurd (let is = last_is s.world.committed s.world.batch_ends (tip_of s) rise in let isnt = not_true (is_end at.world end) no in let both = sym is ∙ isnt in cc))
+      (λ isnt. absurd (let is = last_is s.world.committed s.world.batch_ends (tip_of s) rise in let never = not_true (is_end at.world end) isnt in let both = sym is ∙ never in cc))
       (λ _. inr refl))
 
   written_if : (b : Bool) (at : State) (request : Request) → (cond b (after_write options at request) at).world.leading ≡ at.world.leading
