@@ -1,7 +1,7 @@
 -- What an index has of each broker once it is made.
 use Rattle.std.proofs.Common.{◌≡◌, ◌∙◌, ℕ, ℤ, Bool, true, false, not, ◌||◌, cond, List, [], ◌∷◌, ◌++◌, append_assoc, refl, sym, ap, subst}
-use Rattle.std.specs.Prelude.{◌==◌, Option, Some, None, All, IsTrue, filter, flat_map, fold}
-use Rattle.std.specs.Ordering.{is_eq, int_cmp, int_eq, eq_by_cmp}
+use Rattle.std.specs.Prelude.{◌==◌, Option, Some, None, IsTrue, filter, flat_map, fold}
+use Rattle.std.specs.Ordering.{is_eq, int_cmp, int_eq}
 use Rattle.std.specs.BTreeMap.{is_at}
 use Rattle.std.specs.List.{AllByRecursion}
 use Rattle.std.specs.Map.{set_value, values_of}

@@ -1,11 +1,10 @@
 -- Who is fenced leaves each partition with no further replica.
 use Rattle.std.proofs.Common.{◌≡◌, ◌∙◌, ℕ, ℤ, true, false, not, cond, List, [], ◌∷◌, refl, sym, ap, subst}
 use Rattle.std.specs.Prelude.{Option, Some, None, Result, Ok, Err, IfSome, pos}
-use Rattle.std.specs.declared.cmp.Ordering.{Ordering}
 use Rattle.std.specs.declared.cmp.Ordering.TheVariants.{Less, Equal, Greater}
-use Rattle.std.specs.Ordering.{is_eq, int_cmp, match_ordering, ordering_reverse}
+use Rattle.std.specs.Ordering.{is_eq, int_cmp, match_ordering}
 use Rattle.std.specs.BTreeMap.{insert_entry}
-use Rattle.std.specs.List.{AllByRecursion, cons_option}
+use Rattle.std.specs.List.{cons_option}
 use Rattle.std.specs.List.Sorted.{IsStrictlySortedBy}
 use Rattle.std.specs.Map.{keys_of}
 use Rattle.std.specs.Option.{option_map}
@@ -37,7 +36,7 @@ use Rattle.kr_calls.specs.Deciding.{apply_records}
 use Rattle.kr_calls.specs.TakingOut.{fencing, is_held, taking_out, without_broker}
 use Rattle.kr_calls.proofs.TakingOutSteps.{taking_sound}
 use Rattle.kr_calls.proofs.WalkedChanges.{StandApart, is_owned, still_stand, walk_stands}
-use Rattle.kr_replication.specs.FencingIndex.{KeysOfBrokers, GainNoReplicas, Indexes}
+use Rattle.kr_replication.specs.FencingIndex.{GainNoReplicas}
 use Rattle.kr_replication.specs.FencingLaws.{FencingKeepsIndexes}
 use Rattle.kr_replication.proofs.Indexes.{none_gained}
 

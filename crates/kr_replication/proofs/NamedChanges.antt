@@ -9,7 +9,6 @@ use Rattle.kr_defs.specs.declared.partition.Partition.{Partition}
 use Rattle.kr_defs.specs.declared.partition.PartitionChange.{PartitionChange}
 use Rattle.kr_defs.specs.declared.record.Record.{Record}
 use Rattle.kr_defs.specs.declared.record.Record.TheVariants as kinds
-use Rattle.kr_defs.specs.Build.{built}
 use Rattle.kr_defs.specs.Ids.{has}
 use Rattle.kr_defs.specs.Image.{Image, IsValid, topic_name}
 use Rattle.kr_defs.specs.Map as entries
@@ -21,7 +20,7 @@ use Rattle.kr_defs.proofs.IdLists.{all_at}
 use Rattle.kr_defs.proofs.WalkedOnce.{walked_once}
 use Rattle.kr_calls.specs.TakingOut.{fencing, taking_out}
 use Rattle.kr_calls.proofs.WalkedChanges.{value_at}
-use Rattle.kr_replication.specs.FencingIndex.{KeysOfBrokers, GainNoReplicas, Indexes, key_of_replica, keys_of_replica}
+use Rattle.kr_replication.specs.FencingIndex.{KeysOfBrokers, GainNoReplicas, Indexes, keys_of_replica}
 use Rattle.kr_replication.specs.Leaving.{records_at, records_at_each}
 
 abbrev Entry : Type 0

@@ -1,4 +1,5 @@
 pub mod BrokerIds
+pub mod BrokerWalks
 pub mod FencingIndex
 pub mod FencingLaws
 pub mod Leaving
