@@ -5,11 +5,14 @@ ghost use Rattle.kr_defs.specs.DefaultWant as wants;
 ghost use Rattle.kr_defs.specs.Ids.{without};
 ghost use Rattle.kr_defs.specs.declared.record.Record.TheVariants as kinds;
 ghost use Rattle.kr_calls.specs.TakingOut as taking;
+ghost use Rattle.kr_replicas.specs.BrokerPartitions.{Lists};
 
+use crate::broker_walks::add_changes_by;
 use crate::electing::build_without;
 use crate::partitions::{Change, add_changes};
 use kr_base::NoMemory;
 use kr_defs::{Copied, Ids, Mode, Partition, PartitionChange, Record, Records, Text, Want};
+use kr_replicas::BrokerPartitions;
 use kr_store::{Seen, Store};
 use std::alloc::Global;
 
@@ -153,6 +156,23 @@ pub fn take_out<S: Store>(
 {
     let rule = leaver_of(minimum, broker, restarted);
     add_changes(alloc, seen, &rule, records)
+}
+
+/// The same by an index of every broker's keys: no other partitions are looked at than those that it lists for the broker.
+pub fn take_out_by<S: Store>(
+    alloc: Global,
+    seen: &Seen<S>,
+    minimum: &i32,
+    broker: &i32,
+    restarted: bool,
+    index: &BrokerPartitions,
+    records: &mut Records,
+) -> Result<(), NoMemory>
+    requires { Lists index.now seen.now.partitions }
+    ensures { OnOk result (records.new ≡ records.old ++ taking.taken_out minimum.now seen.now broker.now restarted) }
+{
+    let rule = leaver_of(minimum, broker, restarted);
+    add_changes_by(alloc, seen, &rule, broker, index, records)
 }
 
 // The record that fences a broker of this epoch.

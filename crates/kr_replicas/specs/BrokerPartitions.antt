@@ -1,0 +1,44 @@
+-- Which partitions each broker has a replica of, at least, so that what concerns one broker is found without a walk over all
+-- partitions (this project's own). Keys are only added: what a partition has lost is still listed, and a reader asks the
+-- partition itself.
+use Rattle.std.specs.Prelude.{◌≡◌, ℕ, ℤ, Bool, true, false, ◌&&◌, ◌||◌, List, [], ◌∷◌, All}
+use Rattle.std.specs.BTreeMap.{is_at}
+use Rattle.std.specs.BTreeSet.{insert_key}
+use Rattle.std.specs.List.{list_any}
+use Rattle.std.specs.Map.{set_value}
+use Rattle.std.specs.Option.{option_map_or}
+use Rattle.std.specs.Ordering.{int_cmp, is_eq}
+use Rattle.kr_defs.specs.declared.partition.Partition.{Partition}
+use Rattle.kr_defs.specs.Ids.{has}
+use Rattle.kr_defs.specs.Map as entries
+use Rattle.kr_defs.specs.Map.{partition_order}
+
+-- the key is one of them
+abbrev pub is_among : List (ℕ × ℤ) → ℕ × ℤ → Bool
+is_among keys key = list_any (is_at (partition_order key)) keys
+
+-- the key of the broker is listed
+abbrev pub is_listed : List (ℤ × List (ℕ × ℤ)) → ℤ → ℕ × ℤ → Bool
+is_listed listed broker key = option_map_or (λ keys. is_among keys key) (entries.get int_cmp listed broker) false
+
+-- these keys are at least those of the partitions that have the broker as a replica
+abbrev pub AreAtLeast : List (ℕ × ℤ) → ℤ → List ((ℕ × ℤ) × Partition) → Type 0
+AreAtLeast keys broker partitions = All (λ e. has e.1.replicas broker ≡ true → is_among keys e.0 ≡ true) partitions
+
+-- of every broker at least the keys of the partitions that have it as a replica
+abbrev pub Lists : List (ℤ × List (ℕ × ℤ)) → List ((ℕ × ℤ) × Partition) → Type 0
+Lists listed partitions = (broker : ℤ) → All (λ e. has e.1.replicas broker ≡ true → is_listed listed broker e.0 ≡ true) partitions
+
+-- the key among those of the broker
+unfoldable pub with_key : ℕ × ℤ → List (ℤ × List (ℕ × ℤ)) → ℤ → List (ℤ × List (ℕ × ℤ))
+with_key key listed broker =
+    option_map_or (λ keys. set_value (is_at (int_cmp broker)) listed (insert_key partition_order keys key)) (entries.get int_cmp listed broker) (entries.insert int_cmp listed broker (key ∷ []))
+
+-- what was listed still is
+abbrev pub Grows : List (ℤ × List (ℕ × ℤ)) → List (ℤ × List (ℕ × ℤ)) → Type 0
+Grows before after = (broker : ℤ) (key : ℕ × ℤ) → is_listed before broker key ≡ true → is_listed after broker key ≡ true
+
+-- the key is listed for these brokers too, and nothing else is
+abbrev pub IsListedFor : List ℤ → ℕ × ℤ → List (ℤ × List (ℕ × ℤ)) → List (ℤ × List (ℕ × ℤ)) → Type 0
+IsListedFor brokers added before after =
+    (broker : ℤ) (key : ℕ × ℤ) → is_listed after broker key ≡ (is_listed before broker key || (has brokers broker && is_eq (partition_order key added)))

@@ -1,0 +1,44 @@
+-- The changes that concern a broker, of the partitions whose keys are listed for it (this project's own).
+use Rattle.std.specs.Prelude.{◌≡◌, ℕ, ℤ, true, false, List, [], Option, None, fold, filter, flat_map, negsuc}
+use Rattle.std.specs.BTreeMap.Range.{range_contains}
+use Rattle.std.specs.Option.{option_map_or}
+use Rattle.std.specs.declared.ops.Bound.TheVariants.{Excluded, Included}
+use Rattle.kr_defs.specs.declared.limits.TheConstants.{LAST_INDEX}
+use Rattle.kr_defs.specs.declared.partition.PartitionChange.{PartitionChange}
+use Rattle.kr_defs.specs.declared.record.Record.{Record}
+use Rattle.kr_defs.specs.Ids.{has}
+use Rattle.kr_defs.specs.Image.{Image}
+use Rattle.kr_defs.specs.Map as entries
+use Rattle.kr_defs.specs.Map.{partition_order, text_order}
+use Rattle.kr_defs.specs.Partition.{is_well_formed}
+use Rattle.kr_defs.specs.Walk.{Walked}
+use Rattle.kr_replication.specs.Leaving.{records_in_topic}
+use Rattle.kr_store.specs.Images.{topic_with}
+
+-- a well-formed partition that doesn't have the broker as a replica isn't changed
+abbrev pub Concerns : ℤ → (Walked → Option PartitionChange) → Type 0
+Concerns broker change = (w : Walked) → is_well_formed w.partition ≡ true → has w.partition.replicas broker ≡ false → change w ≡ None
+
+-- the name of the key's topic, where there is one, with its id
+abbrev pub with_name : List (List ℕ × ℕ) → List (List ℕ × ℕ) → ℕ × ℤ → List (List ℕ × ℕ)
+with_name topics names key = option_map_or (λ topic. entries.insert text_order names topic.name key.0) (topic_with topics key.0) names
+
+-- the topics of these keys, by name
+abbrev pub names_of : List (List ℕ × ℕ) → List (ℕ × ℤ) → List (List ℕ × ℕ)
+names_of topics keys = fold (with_name topics) [] keys
+
+-- the last key that a partition of the topic can have
+abbrev pub last_of : ℕ → ℕ × ℤ
+last_of id = (id, LAST_INDEX)
+
+-- the keys of the topic
+abbrev pub keys_of_topic : ℕ → List (ℕ × ℤ) → List (ℕ × ℤ)
+keys_of_topic id keys = filter (range_contains partition_order (Excluded (id, negsuc 0)) (Included (last_of id))) keys
+
+-- the records of the changes of the topic's partitions with these keys
+abbrev pub records_of_keys : (Walked → Option PartitionChange) → Image → List ℕ → List (ℕ × ℤ) → List Record
+records_of_keys change image topic keys = flat_map (records_in_topic change image topic) keys
+
+-- the same of each of these topics
+abbrev pub records_of_names : (Walked → Option PartitionChange) → Image → List (ℕ × ℤ) → List (List ℕ × ℕ) → List Record
+records_of_names change image keys names = flat_map (λ t. records_of_keys change image t.0 (keys_of_topic t.1 keys)) names
