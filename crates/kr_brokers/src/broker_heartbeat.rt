@@ -1,6 +1,6 @@
 //! A broker is alive: it is unfenced, told to stop, or fenced.
 
-ghost use Rattle.std.specs.Prelude.{◌≡◌, pos, true, false, int_le, Some, IfOk};
+ghost use Rattle.std.specs.Prelude.{◌≡◌, pos, true, false, int_le, Some, IfOk, IsSome};
 ghost use Rattle.std.specs.Option.{option_map_or};
 ghost use Rattle.std.specs.Ordering.{int_cmp, int_eq};
 ghost use Rattle.kr_defs.specs.declared.record.Record.TheVariants as kinds;
@@ -12,7 +12,7 @@ use kr_base::{NoMemory, Steps};
 use kr_calls::errors::STALE_BROKER_EPOCH;
 use kr_calls::{BrokerHeartbeat, BrokerHeartbeatReply, Draft, Effect, Reply};
 use kr_defs::{Broker, Options, Record, Records};
-use kr_replication::{FencingIndex, active, fencing_records, leads, take_out};
+use kr_replication::{active, fencing_records, leads, take_out};
 use kr_rules::{Handler, Refusal, Rule, Work, decide_one};
 use kr_sessions::{Context, Sessions};
 use kr_store::{Seen, Store};
@@ -116,14 +116,7 @@ fn of_stopping<S: Store>(
         (broker_heartbeat.of_stopping minimum.now sessions.now.heartbeats seen.now request.now)) }
 {
     if is_passed_on(alloc, seen, sessions, &request.broker)? {
-        let records = fencing_records(
-            alloc,
-            seen,
-            minimum,
-            &request.broker,
-            &request.epoch,
-            &FencingIndex::new(alloc),
-        )?;
+        let records = fencing_records(alloc, seen, minimum, &request.broker, &request.epoch)?;
         Ok(draft_of(request, records, true, true))
     } else {
         Ok(draft_of(request, Records::new(alloc), false, false))
@@ -164,18 +157,12 @@ fn of_active<S: Store>(
     minimum: &i32,
     request: &BrokerHeartbeat,
 ) -> Result<Draft<BrokerHeartbeatReply>, NoMemory>
+    requires { IsSome (entries.get int_cmp seen.now.brokers request.now.broker) }
     ensures { IfOk result (λ draft. draft ≡ broker_heartbeat.told request.now
         (broker_heartbeat.of_active minimum.now seen.now request.now)) }
 {
     if request.want_fence {
-        let records = fencing_records(
-            alloc,
-            seen,
-            minimum,
-            &request.broker,
-            &request.epoch,
-            &FencingIndex::new(alloc),
-        )?;
+        let records = fencing_records(alloc, seen, minimum, &request.broker, &request.epoch)?;
         return Ok(draft_of(request, records, true, request.want_shutdown));
     }
     if !request.want_shutdown {
@@ -185,14 +172,7 @@ fn of_active<S: Store>(
         let records = stopping_records(alloc, seen, minimum, &request.broker, &request.epoch)?;
         return Ok(draft_of(request, records, false, false));
     }
-    let records = fencing_records(
-        alloc,
-        seen,
-        minimum,
-        &request.broker,
-        &request.epoch,
-        &FencingIndex::new(alloc),
-    )?;
+    let records = fencing_records(alloc, seen, minimum, &request.broker, &request.epoch)?;
     Ok(draft_of(request, records, true, true))
 }
 

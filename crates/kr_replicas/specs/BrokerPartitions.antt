@@ -1,7 +1,7 @@
 -- Which partitions each broker has a replica of, at least, so that what concerns one broker is found without a walk over all
 -- partitions (this project's own). Keys are only added: what a partition has lost is still listed, and a reader asks the
 -- partition itself.
-use Rattle.std.specs.Prelude.{◌≡◌, ℕ, ℤ, Bool, true, false, ◌&&◌, ◌||◌, List, [], ◌∷◌, All}
+use Rattle.std.specs.Prelude.{◌≡◌, ℕ, ℤ, Bool, true, false, ◌&&◌, ◌||◌, List, [], ◌∷◌, All, Option, unwrap_or}
 use Rattle.std.specs.BTreeMap.{is_at}
 use Rattle.std.specs.BTreeSet.{insert_key}
 use Rattle.std.specs.List.{list_any}
@@ -20,6 +20,10 @@ is_among keys key = list_any (is_at (partition_order key)) keys
 -- the key of the broker is listed
 abbrev pub is_listed : List (ℤ × List (ℕ × ℤ)) → ℤ → ℕ × ℤ → Bool
 is_listed listed broker key = option_map_or (λ keys. is_among keys key) (entries.get int_cmp listed broker) false
+
+-- the keys that are found, none where nothing is
+abbrev pub keys_or_none : Option (List (ℕ × ℤ)) → List (ℕ × ℤ)
+keys_or_none found = unwrap_or found []
 
 -- these keys are at least those of the partitions that have the broker as a replica
 abbrev pub AreAtLeast : List (ℕ × ℤ) → ℤ → List ((ℕ × ℤ) × Partition) → Type 0

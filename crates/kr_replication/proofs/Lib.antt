@@ -3,10 +3,6 @@ pub mod BrokerIds
 pub mod Changes
 pub mod Counts
 pub mod EntryTests
-pub mod ImageIndexes
-pub mod Indexes
-pub mod KeptIndexes
-pub mod KeyLists
+pub mod Leaders
 pub mod ListedWalks
-pub mod NamedChanges
 pub mod Supersets

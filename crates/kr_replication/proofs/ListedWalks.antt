@@ -10,7 +10,7 @@ use Rattle.std.specs.List.{AllByRecursion, cons_option, list_any}
 use Rattle.std.specs.List.Sorted.{IsStrictlySortedBy}
 use Rattle.std.specs.Map.{keys_of, values_of}
 use Rattle.std.specs.Option.{option_map, option_map_or}
-use Rattle.std.proofs.lemmas.Cmp.{int_ranked, nat_cmp_total, ranked, tied_itself}
+use Rattle.std.proofs.lemmas.Cmp.{nat_cmp_total, ranked, tied_itself}
 use Rattle.std.proofs.lemmas.List.{append-nil}
 use Rattle.std.proofs.lemmas.List.Elements.{filter_map-append, recursion_from_All}
 use Rattle.std.proofs.lemmas.Map.Lookups.{exact_bytes}
@@ -28,11 +28,12 @@ use Rattle.kr_calls.specs.TakingOut.{taking_out}
 use Rattle.kr_defs.proofs.Changes.{formed_parts}
 use Rattle.kr_defs.proofs.IdLists.{all_at}
 use Rattle.kr_defs.proofs.ImageParts.{partition_total, text_total}
-use Rattle.kr_defs.proofs.Maps.{IsMap-insert, then_equal}
+use Rattle.kr_defs.proofs.Maps.{IsMap-insert}
 use Rattle.kr_defs.proofs.Tests.{both, neither, not_equal, not_true, or_right, some_is}
 use Rattle.kr_defs.proofs.TopicWalks.{equal_ids, same_topic}
 use Rattle.kr_defs.proofs.Walks.{own_entries}
-use Rattle.kr_replicas.specs.BrokerPartitions.{AreAtLeast, Lists, is_among}
+use Rattle.kr_replicas.specs.BrokerPartitions.{AreAtLeast, is_among}
+use Rattle.kr_replicas.proofs.Partitions.{same_partition}
 use Rattle.kr_replication.specs.BrokerWalks.{Concerns, keys_of_topic, last_of, names_of, records_of_keys, records_of_names, with_name}
 use Rattle.kr_replication.proofs.Supersets.{IsCovered, superset}
 use Rattle.kr_store.specs.Images.{topic_of}
@@ -47,17 +48,6 @@ abbrev Named : Type 0
 Named = List ℕ × ℕ
 
 -- ---- equal keys
-
-same_pair : (a b : ℕ) (c d : ℤ) → a ≡ b → c ≡ d → ◌≡◌ {A = ℕ × ℤ} (a, c) (b, d)
-same_pair a b c d p q =
-    let first : ℕ → ℕ × ℤ = λ n. (n, c) in
-    let second : ℤ → ℕ × ℤ = λ z. (b, z) in
-    ap first p ∙ ap second q
-
-same_partition : (x y : Key) → partition_order x y ≡ Equal → x ≡ y
-same_partition x y is =
-    let parts = then_equal (nat_cmp x.0 y.0) (int_cmp x.1 y.1) is in
-    same_pair x.0 y.0 x.1 y.1 (ranked x.0 y.0 Equal (sym parts.0)) (int_ranked x.1 y.1 Equal (sym parts.1))
 
 same_text : (x y : List ℕ) → text_order x y ≡ Equal → x ≡ y
 same_text x y is = exact_bytes x y is
@@ -347,20 +337,12 @@ module _ (change : Walked → Option PartitionChange) (image : Image) (broker : 
       ∙ (superset text_total same_text of_name (keys_of names) (names_ordered topics keys [] tt) topics valid.topics.ordered (covered_names topics (own_names topics valid.topics.distinct))
       ∙ walked_topics topics)
 
--- ---- of an index
+-- ---- where nothing is listed
 
-pub at_least : (listed : List (ℤ × List Key)) (broker : ℤ) (keys : List Key) (es : List Entry) → Lists listed es → Some keys ≡ get int_cmp listed broker → AreAtLeast keys broker es
-at_least listed broker keys es lists found =
-    subst (λ (o : Option (List Key)). All (λ (e : Entry). has e.1.replicas broker ≡ true → option_map_or (λ keys. is_among keys e.0) o false ≡ true) es) (sym found) (lists broker)
-
-none_at_least : (listed : List (ℤ × List Key)) (broker : ℤ) (es : List Entry) → Lists listed es → None ≡ get int_cmp listed broker → AreAtLeast [] broker es
-none_at_least listed broker es lists none =
-    subst (λ (o : Option (List Key)). All (λ (e : Entry). has e.1.replicas broker ≡ true → option_map_or (λ keys. is_among keys e.0) o false ≡ true) es) (sym none) (lists broker)
-
-pub nothing_changes : (change : Walked → Option PartitionChange) (image : Image) (listed : List (ℤ × List Key)) (broker : ℤ) (records : List Record) → IsValid image → Lists listed image.partitions → Concerns broker change → None ≡ get int_cmp listed broker → records ≡ records ++ changes_of change (walk image)
+pub nothing_changes : (change : Walked → Option PartitionChange) (image : Image) (broker : ℤ) (records : List Record) → IsValid image → AreAtLeast [] broker image.partitions → Concerns broker change → records ≡ records ++ changes_of change (walk image)
 unfolding IsStrictlySortedBy
-nothing_changes change image listed broker records valid lists concerns none =
-    sym (append-nil records) ∙ ap (λ rs. records ++ rs) (listed_changes change image broker [] valid tt (none_at_least listed broker image.partitions lists none) concerns)
+nothing_changes change image broker records valid least concerns =
+    sym (append-nil records) ∙ ap (λ rs. records ++ rs) (listed_changes change image broker [] valid tt least concerns)
 
 -- ---- of a broker that is taken out
 

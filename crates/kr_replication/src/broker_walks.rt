@@ -5,15 +5,14 @@ ghost use Rattle.std.specs.List.Sorted.{IsStrictlySortedBy};
 ghost use Rattle.kr_defs.specs.Map as entries;
 ghost use Rattle.kr_defs.specs.Map.{text_order};
 ghost use Rattle.kr_defs.specs.Walk.{changes_of, walk, walk_topic};
-ghost use Rattle.kr_replicas.specs.BrokerPartitions.{AreAtLeast, Lists};
-ghost use Rattle.kr_replication.specs.BrokerWalks.{Concerns, keys_of_topic, last_of, names_of, records_of_keys, records_of_names, with_name};
-ghost use Rattle.kr_replication.specs.Leaving.{records_in_topic};
+ghost use Rattle.kr_replicas.specs.BrokerPartitions.{AreAtLeast};
+ghost use Rattle.kr_replication.specs.BrokerWalks.{Concerns, keys_of_topic, last_of, names_of, records_in_topic, records_of_keys, records_of_names, with_name};
 
 use crate::partitions::{Change, add_change};
 use kr_base::NoMemory;
 use kr_defs::limits::LAST_INDEX;
 use kr_defs::{Copied, Records, Text};
-use kr_replicas::{BrokerPartitions, PartitionKeys};
+use kr_replicas::PartitionKeys;
 use kr_store::{Seen, Store, before_all};
 use std::alloc::Global;
 use std::collections::BTreeMap;
@@ -122,9 +121,8 @@ fn add_of_names<C: Change, S: Store>(
     Ok(())
 }
 
-/// Adds the changes of all partitions, by the name of their topic and then by index, where the rule changes none that the
-/// broker has no replica of, and the keys are at least those of the others. Only the partitions of these keys are looked at.
-pub fn add_changes_of_broker<C: Change, S: Store>(
+// Adds the changes of all partitions, where the keys are at least those of the partitions that the rule can change.
+fn add_changes_of_keys<C: Change, S: Store>(
     alloc: Global,
     seen: &Seen<S>,
     rule: &C,
@@ -143,24 +141,23 @@ pub fn add_changes_of_broker<C: Change, S: Store>(
     add_of_names(alloc, seen, rule, &names, keys, records)
 }
 
-/// The same by an index of every broker's keys.
-#[tactic(auto, using(crate::proofs::ListedWalks::at_least, crate::proofs::ListedWalks::nothing_changes))]
-pub fn add_changes_by<C: Change, S: Store>(
+/// Adds the changes of all partitions, by the name of their topic and then by index, where the rule changes none that the
+/// broker has no replica of. Only the partitions are looked at whose keys are listed for the broker.
+#[tactic(auto, using(crate::proofs::ListedWalks::nothing_changes))]
+pub fn add_changes_of_broker<C: Change, S: Store>(
     alloc: Global,
     seen: &Seen<S>,
     rule: &C,
     broker: &i32,
-    index: &BrokerPartitions,
     records: &mut Records,
 ) -> Result<(), NoMemory>
-    requires lists { Lists index.now seen.now.partitions }
-    requires concerns { Concerns broker.now (C.change rule.now seen.now) }
+    requires { Concerns broker.now (C.change rule.now seen.now) }
     ensures { OnOk result (records.new ≡ records.old ++
         changes_of (C.change rule.now seen.now) (walk seen.now)) }
 {
     seen.is_valid();
-    match index.keys_of(broker) {
+    match seen.keys_of(broker) {
         None => Ok(()),
-        Some(keys) => add_changes_of_broker(alloc, seen, rule, broker, keys, records),
+        Some(keys) => add_changes_of_keys(alloc, seen, rule, broker, keys, records),
     }
 }

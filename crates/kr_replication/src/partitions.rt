@@ -3,12 +3,10 @@
 ghost use Rattle.std.specs.Prelude.{◌≡◌, ◌++◌, [], IfOk, OnOk, map, Option};
 ghost use Rattle.std.specs.List.{cons_option};
 ghost use Rattle.std.specs.Option.{option_map};
-ghost use Rattle.std.specs.Ordering.{int_eq};
 ghost use Rattle.kr_defs.specs.declared.partition.PartitionChange.{PartitionChange as AnyChange};
 ghost use Rattle.kr_defs.specs.declared.record.Record.TheVariants as kinds;
 ghost use Rattle.kr_defs.specs.Image.{Image};
 ghost use Rattle.kr_defs.specs.Walk.{Walked, walked, walk, walk_topic, changes_of, rest_of_topic};
-ghost use Rattle.kr_calls.specs.BrokerHeartbeat as broker_heartbeat;
 
 use kr_base::NoMemory;
 use kr_defs::{Partition, PartitionChange, Record, Records, Text};
@@ -110,25 +108,4 @@ pub fn add_changes<C: Change, S: Store>(
         after = Some(name);
     }
     Ok(())
-}
-
-fn is_led_by(partition: &Partition, broker: &i32) -> bool
-    ensures { result ≡ int_eq partition.now.leader broker.now }
-{
-    partition.leader == *broker
-}
-
-/// The broker leads a partition.
-pub fn leads<S: Store>(seen: &Seen<S>, broker: &i32) -> bool
-    ensures { result ≡ broker_heartbeat.leads seen.now broker.now }
-{
-    seen.is_valid();
-    let mut after = None;
-    while let Some((key, partition)) = seen.next_partition(after) {
-        if is_led_by(partition, broker) {
-            return true;
-        }
-        after = Some(key);
-    }
-    false
 }

@@ -1,6 +1,6 @@
 use Rattle.std.proofs.Common.{◌∙◌, sym}
 use Rattle.kr_brokers.proofs.FencingMeanings.{have_meanings}
-use Rattle.kr_brokers.proofs.expiry.fence_by.Goals as goal
+use Rattle.kr_brokers.proofs.expiry.fence.Goals as goal
 
 pub apply_all-requires-clause-meanings : goal.apply_all-requires-clause-meanings
 apply_all-requires-clause-meanings g c =

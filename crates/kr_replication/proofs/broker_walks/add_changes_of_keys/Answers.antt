@@ -3,7 +3,7 @@ use Rattle.std.specs.Prelude.{OnOk}
 use Rattle.kr_defs.specs.declared.record.Record.{Record}
 use Rattle.kr_replication.specs.BrokerWalks.{records_of_names}
 use Rattle.kr_replication.proofs.ListedWalks.{listed_changes}
-use Rattle.kr_replication.proofs.broker_walks.add_changes_of_broker.Goals as goal
+use Rattle.kr_replication.proofs.broker_walks.add_changes_of_keys.Goals as goal
 
 pub returns : goal.returns
 returns g c =

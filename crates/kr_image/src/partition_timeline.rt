@@ -1,0 +1,204 @@
+//! The timeline of partitions, with the keys of the partitions that brokers have replicas of.
+
+ghost use Rattle.std.specs.Prelude.{◌≡◌, ◌≤◌, ◌<◌, ◌+◌, ◌^◌, true, [], ◌∷◌, ◌++◌, length, filter, not, int_lt, Some, IsSome, IsTrue, OnOk};
+ghost use Rattle.std.specs.Bool.{OnTrue};
+ghost use Rattle.std.specs.Option.{option_copied, option_map};
+ghost use Rattle.kr_defs.specs.Ids.{has};
+ghost use Rattle.kr_defs.specs.KeptMaps.{IsAbove, map_at, no_maps, oldest_unmade};
+ghost use Rattle.kr_defs.specs.Map as map;
+ghost use Rattle.kr_defs.specs.Map.{partition_order};
+ghost use Rattle.kr_replicas.specs.BrokerPartitions.{Grows, Lists, is_listed, keys_or_none};
+ghost use Rattle.kr_image.specs.Timelines.{calls_above, covered_in, map_in, undone_in};
+ghost use Rattle.kr_image.specs.inner.PartitionKeys.{AreAtLeastInAll};
+
+use crate::entries;
+use crate::keeping;
+use kr_base::{NoMemory, Steps};
+use kr_defs::{Ids, Partition};
+use kr_replicas::{BrokerPartitions, PartitionKeys};
+use kr_timeline::Timeline;
+use std::alloc::Global;
+use std::marker::Model;
+use std::sync::ledger::Ledger;
+
+// The entry of the key has these replicas.
+fn has_replicas(
+    timeline: &Timeline<(u128, i32), Partition>,
+    key: &(u128, i32),
+    replicas: &Ids,
+) -> bool
+    ensures { OnTrue result (option_map (λ p. p.replicas)
+        (map.get partition_order timeline.now.maps.present key.now) ≡ Some replicas.now) }
+{
+    match timeline.get(key) {
+        Some(old) => old.replicas.same(replicas),
+        None => false,
+    }
+}
+
+// The key is listed for the replicas. Where its entry has the same replicas, it is already.
+#[tactic(auto, using(crate::proofs::PartitionLists::listed))]
+fn list_key(
+    listed: &mut BrokerPartitions,
+    alloc: Global,
+    timeline: &Timeline<(u128, i32), Partition>,
+    key: &(u128, i32),
+    replicas: &Ids,
+) -> Result<(), NoMemory>
+    requires lists { Lists listed.old timeline.now.maps.present }
+    ensures own { OnOk result ((broker : ℤ) → has replicas.now broker ≡ true →
+        is_listed listed.new broker key.now ≡ true) }
+    ensures grows { Grows listed.old listed.new }
+{
+    if has_replicas(timeline, key, replicas) {
+        return Ok(());
+    }
+    listed.add(alloc, key, replicas)
+}
+
+/// The timeline of partitions, and of each broker at least the keys of those that it has a replica of, in the present map
+/// and in every kept one.
+#[derive(Drop)]
+pub(crate) struct PartitionTimeline {
+    timeline: Timeline<(u128, i32), Partition>,
+    listed: BrokerPartitions,
+}
+
+impl Model for PartitionTimeline {
+    ghost use Rattle.std.specs.Prelude.{ℕ, ℤ};
+    ghost use Rattle.kr_defs.specs.declared.partition.Partition.{Partition};
+    ghost use Rattle.kr_timeline.specs.History.{History};
+    ghost use Rattle.kr_image.specs.inner.PartitionKeys.{ListsAll};
+
+    ghost Value = { History (ℕ × ℤ) Partition };
+
+    ghost view = { λ s. s.timeline };
+
+    ghost invariant = { λ s. ListsAll s.listed s.timeline.maps };
+}
+
+impl PartitionTimeline {
+    /// No partition, and no kept epoch.
+    #[tactic(auto, using(crate::proofs::PartitionLists::listing))]
+    pub fn new(alloc: Global) -> PartitionTimeline
+        ensures { result.maps ≡ no_maps }
+    {
+        PartitionTimeline {
+            timeline: Timeline::new(alloc),
+            listed: BrokerPartitions::new(alloc),
+        }
+    }
+
+    /// The partitions alone.
+    pub fn timeline(&self) -> &Timeline<(u128, i32), Partition>
+        ensures { result.now ≡ self.now }
+    {
+        &self.timeline
+    }
+
+    /// The keys that are listed for a broker.
+    #[tactic(auto, using(crate::proofs::PartitionLists::looked_up))]
+    pub fn keys_of(&self, broker: &i32) -> Option<&PartitionKeys>
+        ensures { AreAtLeastInAll (keys_or_none (option_copied result)) broker.now self.now.maps }
+    {
+        self.listed.keys_of(broker)
+    }
+
+    /// Makes room for one more epoch.
+    #[tactic(auto, using(crate::proofs::PartitionLists::listing))]
+    pub fn reserve(&mut self) -> Result<(), NoMemory>
+        ensures same { self.new.maps ≡ self.old.maps }
+        ensures room { OnOk result (IsTrue self.new.has_room) }
+    {
+        self.timeline.reserve()
+    }
+
+    /// Keeps the present map under the epoch. There is room for it.
+    #[tactic(auto, using(crate::proofs::PartitionLists::listing))]
+    pub fn mark(&mut self, epoch: &i64)
+        requires room { IsTrue self.old.has_room }
+        requires above { IsAbove self.old.maps.kept epoch.now }
+        ensures kept { self.new.maps.kept ≡ self.old.maps.kept ++ record { epoch = epoch.now; map = self.old.maps.present; made = self.old.maps.made } ∷ [] }
+        ensures present { self.new.maps.present ≡ self.old.maps.present }
+        ensures made { self.new.maps.made ≡ 0 }
+    {
+        keeping::mark(&mut self.timeline, epoch);
+    }
+
+    /// Makes the map that is kept under the epoch the present one, and drops the later epochs. The epoch is kept.
+    #[tactic(auto, using(crate::proofs::PartitionLists::listing))]
+    pub fn revert<L: Ledger>(&mut self, epoch: &i64, steps: &mut Steps<L>)
+        requires { IsSome (map_at self.old.maps epoch.now) }
+        ensures kept { self.new.maps.kept ≡ filter (λ k. not (int_lt epoch.now k.epoch)) self.old.maps.kept }
+        ensures present { self.new.maps.present ≡ map_in self.old.maps.kept epoch.now }
+        ensures made { self.new.maps.made ≡ 0 }
+        ensures counted { steps.old ≤ steps.new }
+        ensures bound { steps.new ≤ steps.old + undone_in self.old.maps.kept epoch.now +
+            self.old.maps.made + 1 }
+    {
+        keeping::revert(&mut self.timeline, epoch, steps);
+    }
+
+    /// Makes the map that is kept under the epoch the present one, and keeps all epochs. The epoch is kept.
+    #[tactic(auto, using(crate::proofs::PartitionLists::listing))]
+    pub fn restore(&mut self, epoch: &i64) -> Result<(), NoMemory>
+        requires { IsSome (map_at self.old.maps epoch.now) }
+        ensures kept { self.new.maps.kept ≡ self.old.maps.kept }
+        ensures present { OnOk result
+            (self.new.maps.present ≡ map_in self.old.maps.kept epoch.now) }
+        ensures made { OnOk result (self.new.maps.made ≤ self.old.maps.made +
+            (calls_above self.old.maps.kept epoch.now + self.old.maps.made)) }
+    {
+        keeping::restore(&mut self.timeline, epoch)
+    }
+
+    /// Drops the kept epochs below this one.
+    #[tactic(auto, using(crate::proofs::PartitionLists::listing))]
+    pub fn forget_below<L: Ledger>(&mut self, epoch: &i64, steps: &mut Steps<L>)
+        ensures kept { self.new.maps.kept ≡ oldest_unmade (filter (λ k. not (int_lt k.epoch epoch.now)) self.old.maps.kept) }
+        ensures present { self.new.maps.present ≡ self.old.maps.present }
+        ensures made { self.new.maps.made ≡ self.old.maps.made }
+        ensures counted { steps.old ≤ steps.new }
+        ensures bound { steps.new ≤ steps.old + covered_in self.old.maps.kept epoch.now + 1 }
+    {
+        keeping::forget_below(&mut self.timeline, epoch, steps);
+    }
+
+    /// Gives the key the value, and counts an entry that is new.
+    #[tactic(auto, using(crate::proofs::PartitionLists::listing))]
+    pub fn set_counted(
+        &mut self,
+        alloc: Global,
+        count: &mut u32,
+        key: (u128, i32),
+        value: Partition,
+    ) -> Result<(), NoMemory>
+        requires counted { count.old ≡ length self.old.maps.present }
+        requires few { length self.old.maps.present + 1 < 2 ^ 32 }
+        requires ordered { map.IsMap partition_order self.old.maps.present }
+        ensures present { OnOk result (self.new.maps.present ≡ map.insert partition_order self.old.maps.present key value) }
+        ensures kept { self.new.maps.kept ≡ self.old.maps.kept }
+        ensures made { OnOk result (self.new.maps.made ≤ self.old.maps.made + 1) }
+        ensures counted { OnOk result (count.new ≡ length self.new.maps.present) }
+    {
+        list_key(&mut self.listed, alloc, &self.timeline, &key, &value.replicas)?;
+        entries::set_counted(&mut self.timeline, count, key, value)
+    }
+
+    /// Takes the key out, and counts an entry that goes.
+    #[tactic(auto, using(crate::proofs::PartitionLists::listing))]
+    pub fn unset_counted(
+        &mut self,
+        alloc: Global,
+        count: &mut u32,
+        key: &(u128, i32),
+    ) -> Result<(), NoMemory>
+        requires counted { count.old ≡ length self.old.maps.present }
+        ensures present { OnOk result (self.new.maps.present ≡ map.remove partition_order self.old.maps.present key.now) }
+        ensures kept { self.new.maps.kept ≡ self.old.maps.kept }
+        ensures made { OnOk result (self.new.maps.made ≤ self.old.maps.made + 1) }
+        ensures counted { OnOk result (count.new ≡ length self.new.maps.present) }
+    {
+        entries::unset_counted(alloc, &mut self.timeline, count, key)
+    }
+}
