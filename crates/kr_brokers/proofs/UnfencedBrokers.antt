@@ -24,8 +24,9 @@ use Rattle.kr_defs.proofs.Maps.{below_all, none_below}
 use Rattle.kr_defs.proofs.Tests.{some_is}
 use Rattle.kr_defs.proofs.Walks.{behind_apart}
 use Rattle.kr_calls.specs.BrokerHeartbeat.{electing, waits_for}
+use Rattle.kr_replicas.specs.BrokerPartitions.{has_replica}
 use Rattle.kr_replication.specs.BrokerIds.{ids_where}
-use Rattle.kr_replication.specs.BrokerWalks.{Concerns}
+use Rattle.kr_replication.specs.BrokerWalks.{ConcernsOnly}
 use Rattle.kr_brokers.specs.Unfencing.{active_with, electing_with}
 
 module _ (b : ℤ) where
@@ -97,7 +98,7 @@ nobody_waits : (c : Bool) (change : Option PartitionChange) → (if c && false t
 nobody_waits true change = refl
 nobody_waits false change = refl
 
-pub electing_concerns : (minimum broker : ℤ) (image : Image) → Concerns broker (electing_with minimum broker image)
+pub electing_concerns : (minimum broker : ℤ) (image : Image) → ConcernsOnly (has_replica broker) (electing_with minimum broker image)
 electing_concerns minimum broker image w formed absent =
     let none : Bool = int_eq w.partition.leader (negsuc 0) in
     let change : Option PartitionChange = built w.partition (default_want w.partition) (facts_with minimum image (ids_where (active_with broker) image.brokers) w.topic) in

@@ -12,7 +12,7 @@ use Rattle.kr_defs.specs.Image.{Image, empty}
 use Rattle.kr_defs.specs.KeptMaps.{Kept, KeptMaps, map_at, no_maps, oldest_unmade}
 use Rattle.kr_defs.specs.Map.{get, insert, partition_order, remove}
 use Rattle.kr_defs.proofs.Tests.{some_is}
-use Rattle.kr_replicas.specs.BrokerPartitions.{AreAtLeast, Grows, IsListedFor, Lists, is_among, is_listed, keys_or_none}
+use Rattle.kr_replicas.specs.BrokerPartitions.{AreAtLeast, Grows, IsListedFor, Lists, has_replica, is_among, is_listed, keys_or_none}
 use Rattle.kr_replicas.proofs.Partitions.{at_least, listed_for, lists_gone, lists_more, lists_none, lists_set, same_partition}
 use Rattle.kr_store.specs.Images.{Images}
 use Rattle.kr_store.specs.Reads.{AreAtLeastEverywhere}
@@ -159,41 +159,39 @@ pub ruleset listing = (new_lists, same_lists, marked_lists, reverted_lists, rest
 
 -- ---- the keys of a broker
 
-pub looked_up : (listed : Listed) (broker : ℤ) (found : Option (List Key)) (maps : Maps) → ListsAll listed maps → found ≡ get int_cmp listed broker → AreAtLeastInAll (keys_or_none found) broker maps
+pub looked_up : (listed : Listed) (broker : ℤ) (found : Option (List Key)) (maps : Maps) → ListsAll listed maps → found ≡ get int_cmp listed broker → AreAtLeastInAll (keys_or_none found) (has_replica broker) maps
 looked_up listed broker found maps all is =
     let P : KeptMap → Type 0 = λ k. Lists listed k.map in
-    let Q : KeptMap → Type 0 = λ k. AreAtLeast (keys_or_none found) broker k.map in
+    let Q : KeptMap → Type 0 = λ k. AreAtLeast (keys_or_none found) (has_replica broker) k.map in
     record {
       present = at_least listed broker found maps.present all.present is;
       kept = All-from_recursion Q maps.kept (all_weaker P Q (λ k lists. at_least listed broker found k.map lists is) maps.kept (recursion_from_All P maps.kept all.kept));
     }
 
-abbrev IsAmong : List Key → ℤ → Entry → Type 0
-IsAmong keys broker e = has e.1.replicas broker ≡ true → is_among keys e.0 ≡ true
+module _ (keys : List Key) (test : Partition → Bool) where
+  least_none : AreAtLeast keys test []
+  least_none = All-from_recursion (λ (e : Entry). test e.1 ≡ true → is_among keys e.0 ≡ true) [] tt
 
-least_none : (keys : List Key) (broker : ℤ) → AreAtLeast keys broker []
-least_none keys broker = All-from_recursion (IsAmong keys broker) [] tt
+  -- the same of a map that is kept, or of none
+  least_in : (epoch : ℤ) (kept : List KeptMap) → AllByRecursion (λ (k : KeptMap). AreAtLeast keys test k.map) kept → AreAtLeast keys test (map_in kept epoch)
+  least_in epoch [] a = least_none
+  least_in epoch (k ∷ kept) a =
+      elim (int_eq k.epoch epoch) as (λ b. AreAtLeast keys test (unwrap_or (option_map (λ (k : KeptMap). k.map) (cond b (Some k) (find (λ (k : KeptMap). int_eq k.epoch epoch) kept))) [])) [
+        | true ↦ a.0
+        | false ↦ least_in epoch kept a.1
+      ]
 
--- the same of a map that is kept, or of none
-least_in : (keys : List Key) (broker epoch : ℤ) (kept : List KeptMap) → AllByRecursion (λ (k : KeptMap). AreAtLeast keys broker k.map) kept → AreAtLeast keys broker (map_in kept epoch)
-least_in keys broker epoch [] a = least_none keys broker
-least_in keys broker epoch (k ∷ kept) a =
-    elim (int_eq k.epoch epoch) as (λ b. AreAtLeast keys broker (unwrap_or (option_map (λ (k : KeptMap). k.map) (cond b (Some k) (find (λ (k : KeptMap). int_eq k.epoch epoch) kept))) [])) [
-      | true ↦ a.0
-      | false ↦ least_in keys broker epoch kept a.1
-    ]
+  least_kept : (epoch : ℤ) (kept : Keeps) (list : List KeptCounts) → ((x : ℤ) → AreAtLeast keys test (map_in kept.partitions x))
+      → AreAtLeast keys test (unwrap_or (option_map (λ (k : ℤ × Image). k.1) (find (λ (k : ℤ × Image). int_eq k.0 epoch) (images_in kept list))) empty).partitions
+  least_kept epoch kept [] each = least_none
+  least_kept epoch kept (k ∷ list) each =
+      elim (int_eq k.epoch epoch) as (λ b. AreAtLeast keys test (unwrap_or (option_map (λ (k : ℤ × Image). k.1) (cond b (Some (k.epoch, image_in kept k.epoch)) (find (λ (k : ℤ × Image). int_eq k.0 epoch) (images_in kept list)))) empty).partitions) [
+        | true ↦ each k.epoch
+        | false ↦ least_kept epoch kept list each
+      ]
 
-least_kept : (keys : List Key) (broker epoch : ℤ) (kept : Keeps) (list : List KeptCounts) → ((x : ℤ) → AreAtLeast keys broker (map_in kept.partitions x))
-    → AreAtLeast keys broker (unwrap_or (option_map (λ (k : ℤ × Image). k.1) (find (λ (k : ℤ × Image). int_eq k.0 epoch) (images_in kept list))) empty).partitions
-least_kept keys broker epoch kept [] each = least_none keys broker
-least_kept keys broker epoch kept (k ∷ list) each =
-    elim (int_eq k.epoch epoch) as (λ b. AreAtLeast keys broker (unwrap_or (option_map (λ (k : ℤ × Image). k.1) (cond b (Some (k.epoch, image_in kept k.epoch)) (find (λ (k : ℤ × Image). int_eq k.0 epoch) (images_in kept list)))) empty).partitions) [
-      | true ↦ each k.epoch
-      | false ↦ least_kept keys broker epoch kept list each
-    ]
-
-pub everywhere : (t : Timelines) (list : List KeptCounts) (begun : Option ℤ) (keys : List Key) (broker : ℤ) → AreAtLeastInAll keys broker t.partitions.maps → AreAtLeastEverywhere keys broker (images_of t list begun)
-everywhere t list begun keys broker least places.Tip = least.present
-everywhere t list begun keys broker least (places.Epoch epoch) =
-    let P : KeptMap → Type 0 = λ k. AreAtLeast keys broker k.map in
-    least_kept keys broker epoch (keeps_of t) list (λ x. least_in keys broker x t.partitions.maps.kept (recursion_from_All P t.partitions.maps.kept least.kept))
+  pub everywhere : (t : Timelines) (list : List KeptCounts) (begun : Option ℤ) → AreAtLeastInAll keys test t.partitions.maps → AreAtLeastEverywhere keys test (images_of t list begun)
+  everywhere t list begun least places.Tip = least.present
+  everywhere t list begun least (places.Epoch epoch) =
+      let P : KeptMap → Type 0 = λ k. AreAtLeast keys test k.map in
+      least_kept epoch (keeps_of t) list (λ x. least_in x t.partitions.maps.kept (recursion_from_All P t.partitions.maps.kept least.kept))

@@ -10,6 +10,7 @@ mod items;
 mod keeping;
 mod kept_counts;
 mod looking;
+mod partition_keys;
 mod partition_timeline;
 mod partitions;
 mod registrations;

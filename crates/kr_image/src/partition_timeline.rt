@@ -7,17 +7,20 @@ ghost use Rattle.kr_defs.specs.Ids.{has};
 ghost use Rattle.kr_defs.specs.KeptMaps.{IsAbove, map_at, no_maps, oldest_unmade};
 ghost use Rattle.kr_defs.specs.Map as map;
 ghost use Rattle.kr_defs.specs.Map.{partition_order};
-ghost use Rattle.kr_replicas.specs.BrokerPartitions.{Grows, Lists, is_listed, keys_or_none};
+ghost use Rattle.kr_replicas.specs.BrokerPartitions.{Grows, Lists, has_replica, is_listed, keys_or_none};
 ghost use Rattle.kr_image.specs.Timelines.{calls_above, covered_in, map_in, undone_in};
-ghost use Rattle.kr_image.specs.inner.PartitionKeys.{AreAtLeastInAll};
+ghost use Rattle.kr_image.specs.inner.PartitionKeys.{AreAtLeastInAll, HaveSameEpochs};
 
 use crate::entries;
 use crate::keeping;
+use crate::kept_counts::KeptCounts;
+use crate::partition_keys::keys_of_maps;
 use kr_base::{NoMemory, Steps};
 use kr_defs::{Ids, Partition};
 use kr_replicas::{BrokerPartitions, PartitionKeys};
 use kr_timeline::Timeline;
 use std::alloc::Global;
+use std::collections::VecDeque;
 use std::marker::Model;
 use std::sync::ledger::Ledger;
 
@@ -36,10 +39,11 @@ fn has_replicas(
     }
 }
 
-// The key is listed for the replicas. Where its entry has the same replicas, it is already.
+// The key is listed for the replicas. Where its entry has the same replicas, it is already, and nothing is counted.
 #[tactic(auto, using(crate::proofs::PartitionLists::listed))]
 fn list_key(
     listed: &mut BrokerPartitions,
+    added: &mut u64,
     alloc: Global,
     timeline: &Timeline<(u128, i32), Partition>,
     key: &(u128, i32),
@@ -53,7 +57,14 @@ fn list_key(
     if has_replicas(timeline, key, replicas) {
         return Ok(());
     }
+    *added = added.saturating_add(1);
     listed.add(alloc, key, replicas)
+}
+
+// So many keys were added that listing all anew costs no more.
+fn is_due(added: u64, partitions: u32, epochs: usize) -> bool {
+    let maps = (epochs as u64).saturating_add(1);
+    u64::from(partitions).saturating_mul(maps) < added
 }
 
 /// The timeline of partitions, and of each broker at least the keys of those that it has a replica of, in the present map
@@ -62,6 +73,8 @@ fn list_key(
 pub(crate) struct PartitionTimeline {
     timeline: Timeline<(u128, i32), Partition>,
     listed: BrokerPartitions,
+    // How many keys were added since all were listed anew.
+    added: u64,
 }
 
 impl Model for PartitionTimeline {
@@ -86,6 +99,7 @@ impl PartitionTimeline {
         PartitionTimeline {
             timeline: Timeline::new(alloc),
             listed: BrokerPartitions::new(alloc),
+            added: 0,
         }
     }
 
@@ -99,7 +113,8 @@ impl PartitionTimeline {
     /// The keys that are listed for a broker.
     #[tactic(auto, using(crate::proofs::PartitionLists::looked_up))]
     pub fn keys_of(&self, broker: &i32) -> Option<&PartitionKeys>
-        ensures { AreAtLeastInAll (keys_or_none (option_copied result)) broker.now self.now.maps }
+        ensures { AreAtLeastInAll (keys_or_none (option_copied result))
+            (has_replica broker.now) self.now.maps }
     {
         self.listed.keys_of(broker)
     }
@@ -181,7 +196,14 @@ impl PartitionTimeline {
         ensures made { OnOk result (self.new.maps.made ≤ self.old.maps.made + 1) }
         ensures counted { OnOk result (count.new ≡ length self.new.maps.present) }
     {
-        list_key(&mut self.listed, alloc, &self.timeline, &key, &value.replicas)?;
+        list_key(
+            &mut self.listed,
+            &mut self.added,
+            alloc,
+            &self.timeline,
+            &key,
+            &value.replicas,
+        )?;
         entries::set_counted(&mut self.timeline, count, key, value)
     }
 
@@ -200,5 +222,19 @@ impl PartitionTimeline {
         ensures counted { OnOk result (count.new ≡ length self.new.maps.present) }
     {
         entries::unset_counted(alloc, &mut self.timeline, count, key)
+    }
+    /// Lists the keys anew, where so many were added since that it costs no more: what no map has any more isn't listed then.
+    /// Without memory they stay as they are.
+    pub fn renew(&mut self, alloc: Global, partitions: u32, kept: &VecDeque<KeptCounts>)
+        requires { HaveSameEpochs self.old.maps.kept kept.now.items }
+        ensures { self.new ≡ self.old }
+    {
+        if !is_due(self.added, partitions, kept.len()) {
+            return;
+        }
+        if let Ok(listed) = keys_of_maps(alloc, &self.timeline, kept) {
+            self.listed = listed;
+            self.added = 0;
+        }
     }
 }

@@ -14,7 +14,7 @@ use Rattle.kr_defs.specs.Map.{get, insert, partition_order, remove}
 use Rattle.kr_defs.proofs.ImageParts.{partition_total}
 use Rattle.kr_defs.proofs.Maps.{All-remove, then_equal}
 use Rattle.kr_defs.proofs.Tests.{or_right}
-use Rattle.kr_replicas.specs.BrokerPartitions.{AreAtLeast, Grows, IsListedFor, Lists, is_among, is_listed, keys_or_none}
+use Rattle.kr_replicas.specs.BrokerPartitions.{AreAtLeast, Grows, IsListedFor, Lists, has_replica, is_among, is_listed, keys_or_none}
 
 abbrev Key : Type 0
 Key = ℕ × ℤ
@@ -82,7 +82,7 @@ pub lists_gone : (listed : Listed) (es : List Entry) (key : Key) → Lists liste
 lists_gone listed es key lists broker = All-remove partition_order (IsListed listed broker) es key (lists broker)
 
 -- what is listed for a broker is at least the keys of its partitions
-pub at_least : (listed : Listed) (broker : ℤ) (o : Option (List Key)) (es : List Entry) → Lists listed es → o ≡ get int_cmp listed broker → AreAtLeast (keys_or_none o) broker es
+pub at_least : (listed : Listed) (broker : ℤ) (o : Option (List Key)) (es : List Entry) → Lists listed es → o ≡ get int_cmp listed broker → AreAtLeast (keys_or_none o) (has_replica broker) es
 at_least listed broker None es lists found =
     subst (λ (o : Option (List Key)). All (λ (e : Entry). has e.1.replicas broker ≡ true → option_map_or (λ keys. is_among keys e.0) o false ≡ true) es) (sym found) (lists broker)
 at_least listed broker (Some keys) es lists found =

@@ -25,9 +25,13 @@ is_listed listed broker key = option_map_or (λ keys. is_among keys key) (entrie
 abbrev pub keys_or_none : Option (List (ℕ × ℤ)) → List (ℕ × ℤ)
 keys_or_none found = unwrap_or found []
 
--- these keys are at least those of the partitions that have the broker as a replica
-abbrev pub AreAtLeast : List (ℕ × ℤ) → ℤ → List ((ℕ × ℤ) × Partition) → Type 0
-AreAtLeast keys broker partitions = All (λ e. has e.1.replicas broker ≡ true → is_among keys e.0 ≡ true) partitions
+-- the partition has the broker as a replica
+abbrev pub has_replica : ℤ → Partition → Bool
+has_replica broker p = has p.replicas broker
+
+-- these keys are at least those of the partitions that pass the test
+abbrev pub AreAtLeast : List (ℕ × ℤ) → (Partition → Bool) → List ((ℕ × ℤ) × Partition) → Type 0
+AreAtLeast keys test partitions = All (λ e. test e.1 ≡ true → is_among keys e.0 ≡ true) partitions
 
 -- of every broker at least the keys of the partitions that have it as a replica
 abbrev pub Lists : List (ℤ × List (ℕ × ℤ)) → List ((ℕ × ℤ) × Partition) → Type 0

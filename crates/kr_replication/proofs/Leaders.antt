@@ -20,7 +20,7 @@ use Rattle.kr_defs.proofs.IdLists.{all_at}
 use Rattle.kr_defs.proofs.ImageParts.{partition_total}
 use Rattle.kr_defs.proofs.Tests.{both, or_right}
 use Rattle.kr_defs.proofs.Walks.{own_entries}
-use Rattle.kr_replicas.specs.BrokerPartitions.{AreAtLeast, is_among}
+use Rattle.kr_replicas.specs.BrokerPartitions.{AreAtLeast, has_replica, is_among}
 use Rattle.kr_replicas.proofs.Partitions.{same_partition}
 use Rattle.kr_replication.specs.BrokerWalks.{leads_any, leads_at}
 
@@ -93,7 +93,7 @@ same_test true b to from = sym (to refl)
 same_test false true to from = from refl
 same_test false false to from = refl
 
-pub leads_listed : (image : Image) (broker : ℤ) (keys : List Key) → IsValid image → IsSome (get int_cmp image.brokers broker) → AreAtLeast keys broker image.partitions → leads_any image.partitions broker keys ≡ leads image broker
+pub leads_listed : (image : Image) (broker : ℤ) (keys : List Key) → IsValid image → IsSome (get int_cmp image.brokers broker) → AreAtLeast keys (has_replica broker) image.partitions → leads_any image.partitions broker keys ≡ leads image broker
 leads_listed image broker keys valid registered least =
     let ps = image.partitions in
     let natural = registered_natural broker image.brokers (recursion_from_All (λ (e : ℤ × Broker). IsTrue (has_numbers e.0 e.1)) image.brokers valid.brokers.numbers) registered in

@@ -1,4 +1,4 @@
--- The changes of the partitions whose keys are listed for a broker are those of all, where they concern the broker alone.
+-- The changes of the partitions whose keys are listed are those of all, where the others aren't changed.
 use Rattle.std.proofs.Common.{◌≡◌, ◌∙◌, ℕ, ℤ, Bool, true, false, not, ◌&&◌, ◌||◌, cond, List, [], ◌∷◌, ◌++◌, refl, sym, ap, subst, negsuc, pos}
 use Rattle.std.specs.Prelude.{◌==◌, Option, Some, None, All, IsTrue, filter, find, flat_map, fold, map, int_lt}
 use Rattle.std.specs.declared.cmp.Ordering.TheVariants.{Less, Equal, Greater}
@@ -32,9 +32,9 @@ use Rattle.kr_defs.proofs.Maps.{IsMap-insert}
 use Rattle.kr_defs.proofs.Tests.{both, neither, not_equal, not_true, or_right, some_is}
 use Rattle.kr_defs.proofs.TopicWalks.{equal_ids, same_topic}
 use Rattle.kr_defs.proofs.Walks.{own_entries}
-use Rattle.kr_replicas.specs.BrokerPartitions.{AreAtLeast, is_among}
+use Rattle.kr_replicas.specs.BrokerPartitions.{AreAtLeast, has_replica, is_among}
 use Rattle.kr_replicas.proofs.Partitions.{same_partition}
-use Rattle.kr_replication.specs.BrokerWalks.{Concerns, keys_of_topic, last_of, names_of, records_of_keys, records_of_names, with_name}
+use Rattle.kr_replication.specs.BrokerWalks.{ConcernsOnly, keys_of_topic, last_of, names_of, records_of_keys, records_of_names, with_name}
 use Rattle.kr_replication.proofs.Supersets.{IsCovered, superset}
 use Rattle.kr_store.specs.Images.{topic_of}
 
@@ -223,7 +223,7 @@ own_names (t ∷ ts) distinct =
 
 -- ---- changes
 
-module _ (change : Walked → Option PartitionChange) (image : Image) (broker : ℤ) (keys : List Key) (valid : IsValid image) (sorted : IsStrictlySortedBy partition_order keys) (least : AreAtLeast keys broker image.partitions) (concerns : Concerns broker change) where
+module _ (change : Walked → Option PartitionChange) (image : Image) (test : Partition → Bool) (keys : List Key) (valid : IsValid image) (sorted : IsStrictlySortedBy partition_order keys) (least : AreAtLeast keys test image.partitions) (concerns : ConcernsOnly test change) where
   abbrev ps : List Entry
   ps = image.partitions
 
@@ -253,25 +253,25 @@ module _ (change : Walked → Option PartitionChange) (image : Image) (broker : 
       ∙ ap (λ rs. at name id k ++ rs) (looked_up name id ks a.1)
 
   abbrev Least : List Entry → Type 0
-  Least es = AllByRecursion (λ (e : Entry). has e.1.replicas broker ≡ true → is_among keys e.0 ≡ true) es
+  Least es = AllByRecursion (λ (e : Entry). test e.1 ≡ true → is_among keys e.0 ≡ true) es
 
   abbrev Formed : List Entry → Type 0
   Formed es = AllByRecursion (λ (e : Entry). IsTrue (is_well_formed e.1)) es
 
   least_all : Least ps
-  least_all = recursion_from_All (λ (e : Entry). has e.1.replicas broker ≡ true → is_among keys e.0 ≡ true) ps least
+  least_all = recursion_from_All (λ (e : Entry). test e.1 ≡ true → is_among keys e.0 ≡ true) ps least
 
   formed_all : Formed ps
   formed_all = recursion_from_All (λ (e : Entry). IsTrue (is_well_formed e.1)) ps valid.partitions.well_formed
 
-  no_change : (e : Entry) (name : List ℕ) (rs : List Record) → is_well_formed e.1 ≡ true → has e.1.replicas broker ≡ false → cons_option (change_of change (walked name e)) rs ≡ rs
+  no_change : (e : Entry) (name : List ℕ) (rs : List Record) → is_well_formed e.1 ≡ true → test e.1 ≡ false → cons_option (change_of change (walked name e)) rs ≡ rs
   no_change e name rs formed absent = ap (λ (o : Option PartitionChange). cons_option (option_map (λ c. kinds.PartitionChange e.0.1 e.0.0 c) o) rs) (concerns (walked name e) formed absent)
 
   covered : (name : List ℕ) (id : ℕ) (es : List Entry) → Least es → AllByRecursion (λ (e : Entry). IsTrue (is_index e.0.1)) es → Formed es → AllByRecursion (IsCovered partition_total same_partition (out name id) (keys_of_topic id keys)) es
   covered name id [] l i f = tt
   covered name id (e ∷ es) l i f = (
     (λ none. elim (e.0.0 == id) as (λ b. (e.0.0 == id) ≡ b → cond b (cons_option (change_of change (walked name e)) []) [] ≡ []) [
-      | true ↦ λ is. elim (has e.1.replicas broker) as (λ c. has e.1.replicas broker ≡ c → cons_option (change_of change (walked name e)) [] ≡ []) [
+      | true ↦ λ is. elim (test e.1) as (λ c. test e.1 ≡ c → cons_option (change_of change (walked name e)) [] ≡ []) [
         | true ↦ λ there. let apart : false ≡ true = sym none ∙ among_kept (is_of id) keys e.0 (l.0 there) (from_topic id e.0 is i.0) in absurd cc
         | false ↦ λ absent. no_change e name [] f.0 absent
       ] refl
@@ -316,7 +316,7 @@ module _ (change : Walked → Option PartitionChange) (image : Image) (broker : 
   silent name id named none (e ∷ es) l f =
       let rest = silent name id named none es l.1 f.1 in
       elim (e.0.0 == id) as (λ b. (e.0.0 == id) ≡ b → changes_of change (map (walked name) (cond b (e ∷ of_topic id es) (of_topic id es))) ≡ []) [
-        | true ↦ λ is. elim (has e.1.replicas broker) as (λ c. has e.1.replicas broker ≡ c → cons_option (change_of change (walked name e)) (changes_of change (map (walked name) (of_topic id es))) ≡ []) [
+        | true ↦ λ is. elim (test e.1) as (λ c. test e.1 ≡ c → cons_option (change_of change (walked name e)) (changes_of change (map (walked name) (of_topic id es))) ≡ []) [
           | true ↦ λ there.
               let own : topic_name image.topics e.0.0 ≡ Some name = subst (λ (i : ℕ). topic_name image.topics i ≡ Some name) (sym (same_topic e.0.0 id is)) named in
               let apart : false ≡ true = sym none ∙ listed_named image.topics keys [] e.0 name (l.0 there) own in absurd cc
@@ -339,10 +339,10 @@ module _ (change : Walked → Option PartitionChange) (image : Image) (broker : 
 
 -- ---- where nothing is listed
 
-pub nothing_changes : (change : Walked → Option PartitionChange) (image : Image) (broker : ℤ) (records : List Record) → IsValid image → AreAtLeast [] broker image.partitions → Concerns broker change → records ≡ records ++ changes_of change (walk image)
+pub nothing_changes : (change : Walked → Option PartitionChange) (image : Image) (test : Partition → Bool) (records : List Record) → IsValid image → AreAtLeast [] test image.partitions → ConcernsOnly test change → records ≡ records ++ changes_of change (walk image)
 unfolding IsStrictlySortedBy
-nothing_changes change image broker records valid least concerns =
-    sym (append-nil records) ∙ ap (λ rs. records ++ rs) (listed_changes change image broker [] valid tt least concerns)
+nothing_changes change image test records valid least concerns =
+    sym (append-nil records) ∙ ap (λ rs. records ++ rs) (listed_changes change image test [] valid tt least concerns)
 
 -- ---- of a broker that is taken out
 
@@ -353,7 +353,7 @@ none_within ids replicas broker within absent =
       | false ↦ λ _. refl
     ] refl
 
-pub taking_concerns : (minimum : ℤ) (image : Image) (broker : ℤ) (restarted : Bool) → Concerns broker (taking_out minimum image broker restarted)
+pub taking_concerns : (minimum : ℤ) (image : Image) (broker : ℤ) (restarted : Bool) → ConcernsOnly (has_replica broker) (taking_out minimum image broker restarted)
 taking_concerns minimum image broker restarted w formed absent =
     let parts = formed_parts w.partition formed in
     let synced = none_within w.partition.in_sync w.partition.replicas broker parts.inside absent in

@@ -1,4 +1,4 @@
--- The changes that concern a broker, of the partitions whose keys are listed for it (this project's own).
+-- The changes of the partitions whose keys are listed, for a broker or another cause (this project's own).
 use Rattle.std.specs.Prelude.{◌≡◌, ℕ, ℤ, Bool, true, false, List, [], Option, None, fold, filter, flat_map, negsuc}
 use Rattle.std.specs.BTreeMap.Range.{range_contains}
 use Rattle.std.specs.List.{cons_option, list_any}
@@ -9,7 +9,6 @@ use Rattle.kr_defs.specs.declared.limits.TheConstants.{LAST_INDEX}
 use Rattle.kr_defs.specs.declared.partition.Partition.{Partition}
 use Rattle.kr_defs.specs.declared.partition.PartitionChange.{PartitionChange}
 use Rattle.kr_defs.specs.declared.record.Record.{Record}
-use Rattle.kr_defs.specs.Ids.{has}
 use Rattle.kr_defs.specs.Image.{Image}
 use Rattle.kr_defs.specs.Map as entries
 use Rattle.kr_defs.specs.Map.{partition_order, text_order}
@@ -17,9 +16,9 @@ use Rattle.kr_defs.specs.Partition.{is_well_formed}
 use Rattle.kr_defs.specs.Walk.{Walked, change_of}
 use Rattle.kr_store.specs.Images.{topic_with}
 
--- a well-formed partition that doesn't have the broker as a replica isn't changed
-abbrev pub Concerns : ℤ → (Walked → Option PartitionChange) → Type 0
-Concerns broker change = (w : Walked) → is_well_formed w.partition ≡ true → has w.partition.replicas broker ≡ false → change w ≡ None
+-- a well-formed partition that doesn't pass the test isn't changed
+abbrev pub ConcernsOnly : (Partition → Bool) → (Walked → Option PartitionChange) → Type 0
+ConcernsOnly test change = (w : Walked) → is_well_formed w.partition ≡ true → test w.partition ≡ false → change w ≡ None
 
 -- the name of the key's topic, where there is one, with its id
 abbrev pub with_name : List (List ℕ × ℕ) → List (List ℕ × ℕ) → ℕ × ℤ → List (List ℕ × ℕ)

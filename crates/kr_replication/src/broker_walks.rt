@@ -5,8 +5,8 @@ ghost use Rattle.std.specs.List.Sorted.{IsStrictlySortedBy};
 ghost use Rattle.kr_defs.specs.Map as entries;
 ghost use Rattle.kr_defs.specs.Map.{text_order};
 ghost use Rattle.kr_defs.specs.Walk.{changes_of, walk, walk_topic};
-ghost use Rattle.kr_replicas.specs.BrokerPartitions.{AreAtLeast};
-ghost use Rattle.kr_replication.specs.BrokerWalks.{Concerns, keys_of_topic, last_of, names_of, records_in_topic, records_of_keys, records_of_names, with_name};
+ghost use Rattle.kr_replicas.specs.BrokerPartitions.{AreAtLeast, has_replica};
+ghost use Rattle.kr_replication.specs.BrokerWalks.{ConcernsOnly, keys_of_topic, last_of, names_of, records_in_topic, records_of_keys, records_of_names, with_name};
 
 use crate::partitions::{Change, add_change};
 use kr_base::NoMemory;
@@ -121,7 +121,8 @@ fn add_of_names<C: Change, S: Store>(
     Ok(())
 }
 
-// Adds the changes of all partitions, where the keys are at least those of the partitions that the rule can change.
+// Adds the changes of all partitions, where the keys are at least those of the partitions that the rule can change: those that
+// have the broker as a replica.
 fn add_changes_of_keys<C: Change, S: Store>(
     alloc: Global,
     seen: &Seen<S>,
@@ -130,8 +131,8 @@ fn add_changes_of_keys<C: Change, S: Store>(
     keys: &PartitionKeys,
     records: &mut Records,
 ) -> Result<(), NoMemory>
-    requires listed { AreAtLeast keys.now broker.now seen.now.partitions }
-    requires concerns { Concerns broker.now (C.change rule.now seen.now) }
+    requires listed { AreAtLeast keys.now (has_replica broker.now) seen.now.partitions }
+    requires concerns { ConcernsOnly (has_replica broker.now) (C.change rule.now seen.now) }
     ensures { OnOk result (records.new ≡ records.old ++
         changes_of (C.change rule.now seen.now) (walk seen.now)) }
 {
@@ -151,7 +152,7 @@ pub fn add_changes_of_broker<C: Change, S: Store>(
     broker: &i32,
     records: &mut Records,
 ) -> Result<(), NoMemory>
-    requires { Concerns broker.now (C.change rule.now seen.now) }
+    requires { ConcernsOnly (has_replica broker.now) (C.change rule.now seen.now) }
     ensures { OnOk result (records.new ≡ records.old ++
         changes_of (C.change rule.now seen.now) (walk seen.now)) }
 {

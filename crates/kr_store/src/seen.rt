@@ -8,7 +8,7 @@ ghost use Rattle.kr_defs.specs.Lookups.{entry_copied};
 ghost use Rattle.kr_defs.specs.Map as entries;
 ghost use Rattle.kr_defs.specs.Map.{config_order, partition_order, text_order};
 ghost use Rattle.kr_defs.specs.Walk.{rest_of_topic};
-ghost use Rattle.kr_replicas.specs.BrokerPartitions.{AreAtLeast, keys_or_none};
+ghost use Rattle.kr_replicas.specs.BrokerPartitions.{AreAtLeast, has_replica, keys_or_none};
 ghost use Rattle.kr_store.specs.Images.{counts_of, image_of_place, last_image, last_kept, topic_under, topic_with};
 ghost use Rattle.kr_store.specs.declared.places.At.TheVariants as places;
 
@@ -121,7 +121,8 @@ impl<'a, S: Store> Seen<'a, S> {
 
     /// Keys of partitions: at least of those that have the broker as a replica. Where there is none, no partition has it.
     pub fn keys_of(&self, broker: &i32) -> Option<&'a PartitionKeys>
-        ensures { AreAtLeast (keys_or_none (option_copied result)) broker.now self.now.partitions }
+        ensures { AreAtLeast (keys_or_none (option_copied result)) (has_replica broker.now)
+            self.now.partitions }
     {
         let store = self.store;
         store.keys_of(broker)
