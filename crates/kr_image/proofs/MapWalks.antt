@@ -1,4 +1,4 @@
--- An index that is made by walks over all maps of a timeline lists each partition.
+-- An index that is made by walks over all maps of a timeline is one of each.
 use Rattle.std.proofs.Common.{◌≡◌, ◌∙◌, ℕ, ℤ, true, false, ◌&&◌, ◌||◌, cond, List, [], ◌∷◌, refl, sym, ap, subst, map, find}
 use Rattle.std.specs.Prelude.{Option, Some, None, All, unwrap_or}
 use Rattle.std.specs.declared.cmp.Ordering.{Ordering}
@@ -16,15 +16,15 @@ use Rattle.kr_defs.specs.KeptMaps.{Kept, KeptMaps}
 use Rattle.kr_defs.specs.Map.{IsMap, above, next, partition_order}
 use Rattle.kr_defs.proofs.ImageParts.{partition_total}
 use Rattle.kr_defs.proofs.Walks.{walk_end, walk_next}
-use Rattle.kr_replicas.specs.BrokerPartitions.{Grows, IsListedFor, Lists, is_listed}
-use Rattle.kr_replicas.proofs.Listed.{grows_then}
-use Rattle.kr_replicas.proofs.Partitions.{listed_for, lists_more, lists_none}
+use Rattle.kr_replicas.specs.BrokerPartitions.{has_standing_by, is_among, is_listed}
 use Rattle.kr_store.specs.declared.places.At.{At}
 use Rattle.kr_store.specs.declared.places.At.TheVariants as places
 use Rattle.kr_image.specs.declared.kept_counts.KeptCounts.{KeptCounts}
-use Rattle.kr_image.specs.inner.PartitionKeys.{AreListed, HaveSameEpochs, ListsAll}
+use Rattle.kr_image.specs.declared.partition_index.PartitionIndex.{PartitionIndex}
+use Rattle.kr_image.specs.inner.PartitionKeys.{HasKey, HaveSameEpochs, InAll, InKept, IndexGrows, IsIndexOf}
 use Rattle.kr_image.specs.inner.TimelineMaps.{entries_at}
 use Rattle.kr_image.specs.Timelines.{map_in}
+use Rattle.kr_image.proofs.IndexedMaps.{grows_itself, grows_on, index_more, listed_none}
 use Rattle.kr_image.proofs.KeptLists.{all_map, all_mapped, same_epoch}
 
 abbrev Key : Type 0
@@ -33,31 +33,38 @@ Key = ℕ × ℤ
 abbrev Entry : Type 0
 Entry = Key × Partition
 
-abbrev Listed : Type 0
-Listed = List (ℤ × List Key)
-
 abbrev KeptMap : Type 0
 KeptMap = Kept Key Partition
 
 -- ---- one map
 
--- an index that has what this one has, and lists those that are left, lists all
-abbrev pub StillLists : List Entry → List Entry → Listed → Type 0
-StillLists ps left now = (later : Listed) → Grows now later → Lists later left → Lists later ps
+-- what has all of this index, and is one of the partitions that are left, is one of all
+abbrev pub StillIndex : List Entry → List Entry → PartitionIndex → Type 0
+StillIndex ps left now = (later : PartitionIndex) → IndexGrows now later → IsIndexOf later left → IsIndexOf later ps
 
-pub still_more : (ps : List Entry) (after : Option Key) (e : Entry) (now new : Listed) → IsMap partition_order ps → Some e ≡ next partition_order ps after → IsListedFor e.1.replicas e.0 now new → StillLists ps (above partition_order ps after) now → StillLists ps (above partition_order ps (Some e.0)) new
-still_more ps after e now new ordered found added still later grows lists =
-    let rest = above partition_order ps (Some e.0) in
-    let all : Lists later (e ∷ rest) = λ broker.
-    let test : Entry → Type 0 = λ d. has d.1.replicas broker ≡ true → is_listed later broker d.0 ≡ true in
-    All-from_recursion test (e ∷ rest) ((λ there. grows broker e.0 (listed_for now new e.0 e.1.replicas added broker there)), recursion_from_All test rest (lists broker))
-    in
-    still later (λ broker key there. grows broker key (added broker key ∙ ap (λ c. c || (has e.1.replicas broker && is_eq (partition_order key e.0))) there))
-    (subst (λ (es : List Entry). Lists later es) (sym (walk_next partition_total ps after e ordered (sym found))) all)
+one_more : (later : PartitionIndex) (e : Entry) (rest : List Entry) → HasKey later e.0 e.1 → IsIndexOf later rest → IsIndexOf later (e ∷ rest)
+one_more later e rest own is =
+    let test : ℤ → Entry → Type 0 = λ broker d. has d.1.replicas broker ≡ true → is_listed later.listed broker d.0 ≡ true in
+    let stands : Entry → Type 0 = λ d. has_standing_by d.1 ≡ true → is_among later.standing d.0 ≡ true in
+    record {
+      replicas = λ broker. All-from_recursion (test broker) (e ∷ rest) (own.replicas broker, recursion_from_All (test broker) rest (is.replicas broker));
+      standing = All-from_recursion stands (e ∷ rest) (own.standing, recursion_from_All stands rest is.standing);
+    }
 
-pub still_all : (ps : List Entry) (after : Option Key) (now : Listed) → None ≡ next partition_order ps after → StillLists ps (above partition_order ps after) now → Lists now ps
+key_later : (now later : PartitionIndex) (key : Key) (p : Partition) → IndexGrows now later → HasKey now key p → HasKey later key p
+key_later now later key p grows own = record {
+  replicas = λ broker there. grows.replicas broker key (own.replicas broker there);
+  standing = λ stands. grows.standing key (own.standing stands);
+}
+
+pub still_more : (ps : List Entry) (after : Option Key) (e : Entry) (now new : PartitionIndex) → IsMap partition_order ps → Some e ≡ next partition_order ps after → HasKey new e.0 e.1 → IndexGrows now new → StillIndex ps (above partition_order ps after) now → StillIndex ps (above partition_order ps (Some e.0)) new
+still_more ps after e now new ordered found own more still later grows is =
+    let all : IsIndexOf later (e ∷ above partition_order ps (Some e.0)) = one_more later e (above partition_order ps (Some e.0)) (key_later new later e.0 e.1 grows own) is in
+    still later (grows_on now new later more grows) (subst (IsIndexOf later) (sym (walk_next partition_total ps after e ordered (sym found))) all)
+
+pub still_all : (ps : List Entry) (after : Option Key) (now : PartitionIndex) → None ≡ next partition_order ps after → StillIndex ps (above partition_order ps after) now → IsIndexOf now ps
 still_all ps after now none still =
-    still now (λ broker key there. there) (subst (λ (es : List Entry). Lists now es) (sym (walk_end (above partition_order ps after) (sym none))) (lists_none now))
+    still now (grows_itself now) (subst (IsIndexOf now) (sym (walk_end (above partition_order ps after) (sym none))) (listed_none now))
 
 -- each map has its keys in order
 ordered_in : (epoch : ℤ) (kept : List KeptMap) → AllByRecursion (λ (k : KeptMap). IsMap partition_order k.map) kept → IsMap partition_order (map_in kept epoch)
@@ -75,20 +82,17 @@ map_ordered maps (places.Epoch epoch) present kept = ordered_in epoch maps.kept 
 
 -- ---- all kept maps
 
--- an index that has what this one has, and lists the maps of the epochs that are left, lists those of all
-abbrev pub LeftListed : List KeptMap → List KeptCounts → List KeptCounts → Listed → Type 0
-LeftListed maps list left now =
-    (later : Listed) → Grows now later → AllByRecursion (λ (k : KeptCounts). Lists later (map_in maps k.epoch)) left → AllByRecursion (λ (k : KeptCounts). Lists later (map_in maps k.epoch)) list
+-- what has all of this index, and is one of the maps of the epochs that are left, is one of those of all
+abbrev pub LeftIndex : List KeptMap → List KeptCounts → List KeptCounts → PartitionIndex → Type 0
+LeftIndex maps list left now =
+    (later : PartitionIndex) → IndexGrows now later → AllByRecursion (λ (k : KeptCounts). IsIndexOf later (map_in maps k.epoch)) left → AllByRecursion (λ (k : KeptCounts). IsIndexOf later (map_in maps k.epoch)) list
 
-pub left_begin : (maps : List KeptMap) (list : List KeptCounts) (now : Listed) → LeftListed maps list list now
+pub left_begin : (maps : List KeptMap) (list : List KeptCounts) (now : PartitionIndex) → LeftIndex maps list list now
 left_begin maps list now later grows all = all
 
-pub left_more : (maps : List KeptMap) (list : List KeptCounts) (k : KeptCounts) (rest : List KeptCounts) (now new : Listed) → LeftListed maps list (k ∷ rest) now → Grows now new → Lists new (map_in maps k.epoch) → LeftListed maps list rest new
+pub left_more : (maps : List KeptMap) (list : List KeptCounts) (k : KeptCounts) (rest : List KeptCounts) (now new : PartitionIndex) → LeftIndex maps list (k ∷ rest) now → IndexGrows now new → IsIndexOf new (map_in maps k.epoch) → LeftIndex maps list rest new
 left_more maps list k rest now new left more own later grows all =
-    left later (λ broker key there. grows broker key (more broker key there)) (lists_more new later (map_in maps k.epoch) grows own, all)
-
-pub grows_itself : (now : Listed) → Grows now now
-grows_itself now broker key there = there
+    left later (grows_on now new later more grows) (index_more new later (map_in maps k.epoch) grows own, all)
 
 -- the map that is kept under an epoch is its own
 apart : (x y : ℤ) → int_cmp x y ≡ Less → int_eq x y ≡ false
@@ -108,18 +112,18 @@ own_maps [] rising = tt
 own_maps (k ∷ kept) rising =
     (ap (λ b. unwrap_or (option_map (λ (k : KeptMap). k.map) (cond b (Some k) (find (λ (d : KeptMap). int_eq d.epoch k.epoch) kept))) []) (same_epoch k.epoch), later_maps k kept kept rising.0 (own_maps kept rising.1))
 
-each_own : (listed : Listed) (kept ds : List KeptMap) → AllByRecursion (λ (d : KeptMap). map_in kept d.epoch ≡ d.map) ds → AllByRecursion (λ (d : KeptMap). Lists listed (map_in kept d.epoch)) ds → AllByRecursion (λ (d : KeptMap). Lists listed d.map) ds
-each_own listed kept [] own lists = tt
-each_own listed kept (d ∷ ds) own lists = (subst (Lists listed) own.0 lists.0, each_own listed kept ds own.1 lists.1)
+each_own : (index : PartitionIndex) (kept ds : List KeptMap) → AllByRecursion (λ (d : KeptMap). map_in kept d.epoch ≡ d.map) ds → AllByRecursion (λ (d : KeptMap). IsIndexOf index (map_in kept d.epoch)) ds → AllByRecursion (λ (d : KeptMap). IsIndexOf index d.map) ds
+each_own index kept [] own is = tt
+each_own index kept (d ∷ ds) own is = (subst (IsIndexOf index) own.0 is.0, each_own index kept ds own.1 is.1)
 
-pub left_none : (maps : List KeptMap) (list : List KeptCounts) (now : Listed) → IsStrictlySortedBy int_cmp (map (λ (k : KeptMap). k.epoch) maps) → HaveSameEpochs maps list → LeftListed maps list [] now → AreListed now maps
+pub left_none : (maps : List KeptMap) (list : List KeptCounts) (now : PartitionIndex) → IsStrictlySortedBy int_cmp (map (λ (k : KeptMap). k.epoch) maps) → HaveSameEpochs maps list → LeftIndex maps list [] now → InKept (IsIndexOf now) maps
 left_none maps list now rising same left =
-    let P : ℤ → Type 0 = λ x. Lists now (map_in maps x) in
-    let listed : AllByRecursion P (map (λ (k : KeptMap). k.epoch) maps) = subst (AllByRecursion P) (sym same) (all_mapped (λ (k : KeptCounts). k.epoch) P list (left now (λ broker key there. there) tt)) in
-    All-from_recursion (λ (k : KeptMap). Lists now k.map) maps (each_own now maps maps (own_maps maps rising) (all_map (λ (k : KeptMap). k.epoch) P maps listed))
+    let P : ℤ → Type 0 = λ x. IsIndexOf now (map_in maps x) in
+    let each : AllByRecursion P (map (λ (k : KeptMap). k.epoch) maps) = subst (AllByRecursion P) (sym same) (all_mapped (λ (k : KeptCounts). k.epoch) P list (left now (grows_itself now) tt)) in
+    All-from_recursion (λ (k : KeptMap). IsIndexOf now k.map) maps (each_own now maps maps (own_maps maps rising) (all_map (λ (k : KeptMap). k.epoch) P maps each))
 
-pub ruleset each_epoch = (left_begin, left_more, left_none, grows_itself, grows_then)
+pub ruleset each_epoch = (left_begin, left_more, left_none, grows_itself, grows_on)
 
 -- the present map was listed first
-pub all_listed : (before listed : Listed) (maps : KeptMaps Key Partition) → Lists before maps.present → Grows before listed → AreListed listed maps.kept → ListsAll listed maps
-all_listed before listed maps first grows kept = record { present = lists_more before listed maps.present grows first; kept = kept }
+pub all_listed : (before index : PartitionIndex) (maps : KeptMaps Key Partition) → IsIndexOf before maps.present → IndexGrows before index → InKept (IsIndexOf index) maps.kept → InAll (IsIndexOf index) maps
+all_listed before index maps first grows kept = record { present = index_more before index maps.present grows first; kept = kept }

@@ -1,65 +1,27 @@
-//! The timeline of partitions, with the keys of the partitions that brokers have replicas of.
+//! The timeline of partitions, with an index of them.
 
-ghost use Rattle.std.specs.Prelude.{◌≡◌, ◌≤◌, ◌<◌, ◌+◌, ◌^◌, true, [], ◌∷◌, ◌++◌, length, filter, not, int_lt, Some, IsSome, IsTrue, OnOk};
-ghost use Rattle.std.specs.Bool.{OnTrue};
-ghost use Rattle.std.specs.Option.{option_copied, option_map};
-ghost use Rattle.kr_defs.specs.Ids.{has};
+ghost use Rattle.std.specs.Prelude.{◌≡◌, ◌≤◌, ◌<◌, ◌+◌, ◌^◌, [], ◌∷◌, ◌++◌, length, filter, not, int_lt, IsSome, IsTrue, OnOk};
+ghost use Rattle.std.specs.Option.{option_copied};
 ghost use Rattle.kr_defs.specs.KeptMaps.{IsAbove, map_at, no_maps, oldest_unmade};
 ghost use Rattle.kr_defs.specs.Map as map;
 ghost use Rattle.kr_defs.specs.Map.{partition_order};
-ghost use Rattle.kr_replicas.specs.BrokerPartitions.{Grows, Lists, has_replica, is_listed, keys_or_none};
+ghost use Rattle.kr_replicas.specs.BrokerPartitions.{AreAtLeast, has_replica, has_standing_by, keys_or_none};
 ghost use Rattle.kr_image.specs.Timelines.{calls_above, covered_in, map_in, undone_in};
-ghost use Rattle.kr_image.specs.inner.PartitionKeys.{AreAtLeastInAll, HaveSameEpochs};
+ghost use Rattle.kr_image.specs.inner.PartitionKeys.{HaveSameEpochs, InAll};
 
 use crate::entries;
+use crate::index_walks::index_of_maps;
 use crate::keeping;
 use crate::kept_counts::KeptCounts;
-use crate::partition_keys::keys_of_maps;
+use crate::partition_index::{PartitionIndex, no_index};
 use kr_base::{NoMemory, Steps};
-use kr_defs::{Ids, Partition};
-use kr_replicas::{BrokerPartitions, PartitionKeys};
+use kr_defs::Partition;
+use kr_replicas::PartitionKeys;
 use kr_timeline::Timeline;
 use std::alloc::Global;
 use std::collections::VecDeque;
 use std::marker::Model;
 use std::sync::ledger::Ledger;
-
-// The entry of the key has these replicas.
-fn has_replicas(
-    timeline: &Timeline<(u128, i32), Partition>,
-    key: &(u128, i32),
-    replicas: &Ids,
-) -> bool
-    ensures { OnTrue result (option_map (λ p. p.replicas)
-        (map.get partition_order timeline.now.maps.present key.now) ≡ Some replicas.now) }
-{
-    match timeline.get(key) {
-        Some(old) => old.replicas.same(replicas),
-        None => false,
-    }
-}
-
-// The key is listed for the replicas. Where its entry has the same replicas, it is already, and nothing is counted.
-#[tactic(auto, using(crate::proofs::PartitionLists::listed))]
-fn list_key(
-    listed: &mut BrokerPartitions,
-    added: &mut u64,
-    alloc: Global,
-    timeline: &Timeline<(u128, i32), Partition>,
-    key: &(u128, i32),
-    replicas: &Ids,
-) -> Result<(), NoMemory>
-    requires lists { Lists listed.old timeline.now.maps.present }
-    ensures own { OnOk result ((broker : ℤ) → has replicas.now broker ≡ true →
-        is_listed listed.new broker key.now ≡ true) }
-    ensures grows { Grows listed.old listed.new }
-{
-    if has_replicas(timeline, key, replicas) {
-        return Ok(());
-    }
-    *added = added.saturating_add(1);
-    listed.add(alloc, key, replicas)
-}
 
 // So many keys were added that listing all anew costs no more.
 fn is_due(added: u64, partitions: u32, epochs: usize) -> bool {
@@ -67,13 +29,12 @@ fn is_due(added: u64, partitions: u32, epochs: usize) -> bool {
     u64::from(partitions).saturating_mul(maps) < added
 }
 
-/// The timeline of partitions, and of each broker at least the keys of those that it has a replica of, in the present map
-/// and in every kept one.
+/// The timeline of partitions, and an index of those in the present map and in every kept one.
 #[derive(Drop)]
 pub(crate) struct PartitionTimeline {
     timeline: Timeline<(u128, i32), Partition>,
-    listed: BrokerPartitions,
-    // How many keys were added since all were listed anew.
+    index: PartitionIndex,
+    // How many keys were listed for replicas since the index was made anew.
     added: u64,
 }
 
@@ -81,13 +42,13 @@ impl Model for PartitionTimeline {
     ghost use Rattle.std.specs.Prelude.{ℕ, ℤ};
     ghost use Rattle.kr_defs.specs.declared.partition.Partition.{Partition};
     ghost use Rattle.kr_timeline.specs.History.{History};
-    ghost use Rattle.kr_image.specs.inner.PartitionKeys.{ListsAll};
+    ghost use Rattle.kr_image.specs.inner.PartitionKeys.{InAll, IsIndexOf};
 
     ghost Value = { History (ℕ × ℤ) Partition };
 
     ghost view = { λ s. s.timeline };
 
-    ghost invariant = { λ s. ListsAll s.listed s.timeline.maps };
+    ghost invariant = { λ s. InAll (IsIndexOf s.index) s.timeline.maps };
 }
 
 impl PartitionTimeline {
@@ -98,7 +59,7 @@ impl PartitionTimeline {
     {
         PartitionTimeline {
             timeline: Timeline::new(alloc),
-            listed: BrokerPartitions::new(alloc),
+            index: no_index(alloc),
             added: 0,
         }
     }
@@ -113,10 +74,18 @@ impl PartitionTimeline {
     /// The keys that are listed for a broker.
     #[tactic(auto, using(crate::proofs::PartitionLists::looked_up))]
     pub fn keys_of(&self, broker: &i32) -> Option<&PartitionKeys>
-        ensures { AreAtLeastInAll (keys_or_none (option_copied result))
-            (has_replica broker.now) self.now.maps }
+        ensures { InAll (AreAtLeast (keys_or_none (option_copied result))
+            (has_replica broker.now)) self.now.maps }
     {
-        self.listed.keys_of(broker)
+        self.index.listed.keys_of(broker)
+    }
+
+    /// The keys of the partitions that a replica stands by of.
+    #[tactic(auto, using(crate::proofs::PartitionLists::standing_listed))]
+    pub fn standing(&self) -> &PartitionKeys
+        ensures { InAll (AreAtLeast result.now has_standing_by) self.now.maps }
+    {
+        &self.index.standing
     }
 
     /// Makes room for one more epoch.
@@ -164,7 +133,8 @@ impl PartitionTimeline {
         ensures made { OnOk result (self.new.maps.made ≤ self.old.maps.made +
             (calls_above self.old.maps.kept epoch.now + self.old.maps.made)) }
     {
-        keeping::restore(&mut self.timeline, epoch)
+        keeping::restore(&mut self.timeline, epoch)?;
+        Ok(())
     }
 
     /// Drops the kept epochs below this one.
@@ -196,15 +166,10 @@ impl PartitionTimeline {
         ensures made { OnOk result (self.new.maps.made ≤ self.old.maps.made + 1) }
         ensures counted { OnOk result (count.new ≡ length self.new.maps.present) }
     {
-        list_key(
-            &mut self.listed,
-            &mut self.added,
-            alloc,
-            &self.timeline,
-            &key,
-            &value.replicas,
-        )?;
-        entries::set_counted(&mut self.timeline, count, key, value)
+        self.index
+            .add_next(&mut self.added, alloc, &self.timeline, &key, &value)?;
+        entries::set_counted(&mut self.timeline, count, key, value)?;
+        Ok(())
     }
 
     /// Takes the key out, and counts an entry that goes.
@@ -221,10 +186,11 @@ impl PartitionTimeline {
         ensures made { OnOk result (self.new.maps.made ≤ self.old.maps.made + 1) }
         ensures counted { OnOk result (count.new ≡ length self.new.maps.present) }
     {
-        entries::unset_counted(alloc, &mut self.timeline, count, key)
+        entries::unset_counted(alloc, &mut self.timeline, count, key)?;
+        Ok(())
     }
-    /// Lists the keys anew, where so many were added since that it costs no more: what no map has any more isn't listed then.
-    /// Without memory they stay as they are.
+    /// Makes the index anew, where so many keys were added since that it costs no more: what no map has any more isn't listed then.
+    /// Without memory it stays as it is.
     pub fn renew(&mut self, alloc: Global, partitions: u32, kept: &VecDeque<KeptCounts>)
         requires { HaveSameEpochs self.old.maps.kept kept.now.items }
         ensures { self.new ≡ self.old }
@@ -232,8 +198,8 @@ impl PartitionTimeline {
         if !is_due(self.added, partitions, kept.len()) {
             return;
         }
-        if let Ok(listed) = keys_of_maps(alloc, &self.timeline, kept) {
-            self.listed = listed;
+        if let Ok(index) = index_of_maps(alloc, &self.timeline, kept) {
+            self.index = index;
             self.added = 0;
         }
     }

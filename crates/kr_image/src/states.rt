@@ -66,7 +66,7 @@ pub(crate) fn revert<L: Ledger>(
     Ok(())
 }
 
-// Drops the kept epochs below this one, and leaves the keys that are listed.
+// Drops the kept epochs below this one, and leaves the index of partitions.
 fn drop_below<L: Ledger>(
     timelines: &mut Timelines,
     kept: &mut VecDeque<KeptCounts>,
@@ -107,7 +107,7 @@ pub(crate) fn forget_below<L: Ledger>(
         (images_of timelines.old kept.old.items begun.now) epoch.now steps.old steps.new }
 {
     drop_below(timelines, kept, begun, epoch, steps);
-    timelines.renew_keys(kept);
+    timelines.renew_index(kept);
 }
 
 /// Makes the state of the last kept epoch the present one, whatever the present maps are.

@@ -65,7 +65,7 @@ same_key key added k equal =
     let o = partition_total in
     o.antisymm key added ∙ (ap ordering_reverse (o.congr added k key equal) ∙ sym (o.antisymm key k))
 
-among_more : (keys : List Key) (added key : Key) → is_among (insert_key partition_order keys added) key ≡ (is_among keys key || is_eq (partition_order key added))
+pub among_more : (keys : List Key) (added key : Key) → is_among (insert_key partition_order keys added) key ≡ (is_among keys key || is_eq (partition_order key added))
 among_more [] added key = or_none (is_eq (partition_order key added))
 among_more (k ∷ ks) added key =
     let test = is_eq (partition_order key added) in

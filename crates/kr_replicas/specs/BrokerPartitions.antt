@@ -1,7 +1,7 @@
 -- Which partitions each broker has a replica of, at least, so that what concerns one broker is found without a walk over all
 -- partitions (this project's own). Keys are only added: what a partition has lost is still listed, and a reader asks the
 -- partition itself.
-use Rattle.std.specs.Prelude.{◌≡◌, ℕ, ℤ, Bool, true, false, ◌&&◌, ◌||◌, List, [], ◌∷◌, All, Option, unwrap_or}
+use Rattle.std.specs.Prelude.{◌≡◌, ◌==◌, ℕ, ℤ, Bool, true, false, not, ◌&&◌, ◌||◌, List, [], ◌∷◌, length, All, Option, unwrap_or}
 use Rattle.std.specs.BTreeMap.{is_at}
 use Rattle.std.specs.BTreeSet.{insert_key}
 use Rattle.std.specs.List.{list_any}
@@ -29,9 +29,17 @@ keys_or_none found = unwrap_or found []
 abbrev pub has_replica : ℤ → Partition → Bool
 has_replica broker p = has p.replicas broker
 
+-- a replica stands by: it is eligible though out of sync, or was the last one known (KIP-966)
+abbrev pub has_standing_by : Partition → Bool
+has_standing_by p = not (length p.eligible == 0 && length p.last_known == 0)
+
 -- these keys are at least those of the partitions that pass the test
 abbrev pub AreAtLeast : List (ℕ × ℤ) → (Partition → Bool) → List ((ℕ × ℤ) × Partition) → Type 0
 AreAtLeast keys test partitions = All (λ e. test e.1 ≡ true → is_among keys e.0 ≡ true) partitions
+
+-- what was among the keys still is
+abbrev pub KeepsKeys : List (ℕ × ℤ) → List (ℕ × ℤ) → Type 0
+KeepsKeys before after = (key : ℕ × ℤ) → is_among before key ≡ true → is_among after key ≡ true
 
 -- of every broker at least the keys of the partitions that have it as a replica
 abbrev pub Lists : List (ℤ × List (ℕ × ℤ)) → List ((ℕ × ℤ) × Partition) → Type 0

@@ -8,7 +8,7 @@ ghost use Rattle.kr_defs.specs.Lookups.{entry_copied};
 ghost use Rattle.kr_defs.specs.Map as entries;
 ghost use Rattle.kr_defs.specs.Map.{config_order, partition_order, text_order};
 ghost use Rattle.kr_defs.specs.Walk.{rest_of_topic};
-ghost use Rattle.kr_replicas.specs.BrokerPartitions.{AreAtLeast, has_replica, keys_or_none};
+ghost use Rattle.kr_replicas.specs.BrokerPartitions.{AreAtLeast, has_replica, has_standing_by, keys_or_none};
 ghost use Rattle.kr_store.specs.Images.{counts_of, image_of_place, last_image, last_kept, topic_under, topic_with};
 ghost use Rattle.kr_store.specs.declared.places.At.TheVariants as places;
 
@@ -126,6 +126,14 @@ impl<'a, S: Store> Seen<'a, S> {
     {
         let store = self.store;
         store.keys_of(broker)
+    }
+
+    /// Keys of partitions: at least of those that a replica stands by of.
+    pub fn standing(&self) -> &'a PartitionKeys
+        ensures { AreAtLeast result.now has_standing_by self.now.partitions }
+    {
+        let store = self.store;
+        store.standing()
     }
 
     /// The value of a setting.

@@ -1,23 +1,35 @@
--- The keys of partitions that are listed for brokers beside the maps of a timeline.
-use Rattle.std.specs.Prelude.{◌≡◌, ℕ, ℤ, Bool, List, All, map}
+-- The keys of partitions that are listed beside the maps of a timeline.
+use Rattle.std.specs.Prelude.{◌≡◌, ℕ, ℤ, true, List, All, map}
 use Rattle.kr_defs.specs.declared.partition.Partition.{Partition}
+use Rattle.kr_defs.specs.Ids.{has}
 use Rattle.kr_defs.specs.KeptMaps.{Kept, KeptMaps}
-use Rattle.kr_replicas.specs.BrokerPartitions.{AreAtLeast, Lists}
+use Rattle.kr_replicas.specs.BrokerPartitions.{AreAtLeast, Grows, KeepsKeys, Lists, has_standing_by, is_among, is_listed}
 use Rattle.kr_image.specs.declared.kept_counts.KeptCounts.{KeptCounts}
+use Rattle.kr_image.specs.declared.partition_index.PartitionIndex.{PartitionIndex}
 
--- of every broker at least the keys of the partitions that have it as a replica, in every kept map
-abbrev pub AreListed : List (ℤ × List (ℕ × ℤ)) → List (Kept (ℕ × ℤ) Partition) → Type 0
-AreListed listed kept = All (λ (k : Kept (ℕ × ℤ) Partition). Lists listed k.map) kept
+-- every broker's partitions are listed for it, and those that a replica stands by of
+pub record IsIndexOf (index : PartitionIndex) (partitions : List ((ℕ × ℤ) × Partition)) : Type 0 where
+  pub replicas : Lists index.listed partitions
+  pub standing : AreAtLeast index.standing has_standing_by partitions
 
--- the same in the present map too
-pub record ListsAll (listed : List (ℤ × List (ℕ × ℤ))) (maps : KeptMaps (ℕ × ℤ) Partition) : Type 0 where
-  pub present : Lists listed maps.present
-  pub kept : AreListed listed maps.kept
+-- the key of the partition is listed for its replicas, and among the keys of those that a replica stands by of, if one does
+pub record HasKey (index : PartitionIndex) (key : ℕ × ℤ) (p : Partition) : Type 0 where
+  pub replicas : (broker : ℤ) → has p.replicas broker ≡ true → is_listed index.listed broker key ≡ true
+  pub standing : has_standing_by p ≡ true → is_among index.standing key ≡ true
 
--- these keys are at least those of the partitions that pass the test, in the present map and in every kept one
-pub record AreAtLeastInAll (keys : List (ℕ × ℤ)) (test : Partition → Bool) (maps : KeptMaps (ℕ × ℤ) Partition) : Type 0 where
-  pub present : AreAtLeast keys test maps.present
-  pub kept : All (λ (k : Kept (ℕ × ℤ) Partition). AreAtLeast keys test k.map) maps.kept
+-- what was listed still is
+pub record IndexGrows (before after : PartitionIndex) : Type 0 where
+  pub replicas : Grows before.listed after.listed
+  pub standing : KeepsKeys before.standing after.standing
+
+-- this is true of every kept map
+abbrev pub InKept : (List ((ℕ × ℤ) × Partition) → Type 0) → List (Kept (ℕ × ℤ) Partition) → Type 0
+InKept P kept = All (λ (k : Kept (ℕ × ℤ) Partition). P k.map) kept
+
+-- this is true of the present map, and of every kept one
+pub record InAll (P : List ((ℕ × ℤ) × Partition) → Type 0) (maps : KeptMaps (ℕ × ℤ) Partition) : Type 0 where
+  pub present : P maps.present
+  pub kept : InKept P maps.kept
 
 -- the maps are kept under these epochs
 abbrev pub HaveSameEpochs : List (Kept (ℕ × ℤ) Partition) → List KeptCounts → Type 0

@@ -1,21 +1,20 @@
-//! The keys of all partitions of a timeline, listed anew.
+//! An index of all maps of a timeline of partitions is made anew.
 
 ghost use Rattle.std.specs.Prelude.{◌≡◌, [], IfOk, OnOk, unwrap_or};
 ghost use Rattle.std.specs.Option.{option_copied};
 ghost use Rattle.kr_defs.specs.Lookups.{entry_copied};
 ghost use Rattle.kr_defs.specs.Map as entries;
 ghost use Rattle.kr_defs.specs.Map.{partition_order};
-ghost use Rattle.kr_replicas.specs.BrokerPartitions.{Grows, Lists};
 ghost use Rattle.kr_store.specs.declared.places.At.TheVariants as places;
-ghost use Rattle.kr_image.specs.inner.PartitionKeys.{AreListed, HaveSameEpochs, ListsAll};
+ghost use Rattle.kr_image.specs.inner.PartitionKeys.{HaveSameEpochs, InAll, InKept, IndexGrows, IsIndexOf};
 ghost use Rattle.kr_image.specs.inner.TimelineMaps.{entries_at};
 ghost use Rattle.kr_image.specs.Timelines.{map_in};
 
 use crate::kept_counts::KeptCounts;
 use crate::looking;
+use crate::partition_index::{PartitionIndex, no_index};
 use kr_base::{NoEpoch, NoMemory};
 use kr_defs::Partition;
-use kr_replicas::BrokerPartitions;
 use kr_store::At;
 use kr_timeline::Timeline;
 use std::alloc::Global;
@@ -40,20 +39,20 @@ fn next_partition<'a>(
 }
 
 // Lists the partitions of one map.
-#[tactic(auto, using(kr_replicas::proofs::Listed::grows_then))]
+#[tactic(auto, using(crate::proofs::IndexedMaps::grows_on))]
 fn add_map(
-    listed: &mut BrokerPartitions,
+    index: &mut PartitionIndex,
     alloc: Global,
     timeline: &Partitions,
     at: At,
 ) -> Result<(), NoMemory>
-    ensures lists { OnOk result (Lists listed.new (unwrap_or (entries_at timeline.now.maps at) [])) }
-    ensures grows { Grows listed.old listed.new }
+    ensures lists { OnOk result (IsIndexOf index.new (unwrap_or (entries_at timeline.now.maps at) [])) }
+    ensures grows { IndexGrows index.old index.new }
 {
     timeline.epochs();
     let mut after = None;
     while let Some((key, partition)) = next_partition(timeline, at, after) {
-        listed.add(alloc, key, &partition.replicas)?;
+        index.add(alloc, key, partition)?;
         after = Some(key);
     }
     Ok(())
@@ -67,49 +66,48 @@ fn place_of(kept: &KeptCounts) -> At
 
 // Lists the partitions of the map of this epoch.
 fn add_epoch(
-    listed: &mut BrokerPartitions,
+    index: &mut PartitionIndex,
     alloc: Global,
     timeline: &Partitions,
     kept: &KeptCounts,
 ) -> Result<(), NoMemory>
-    ensures lists { OnOk result (Lists listed.new (map_in timeline.now.maps.kept kept.now.epoch)) }
-    ensures grows { Grows listed.old listed.new }
+    ensures lists { OnOk result (IsIndexOf index.new (map_in timeline.now.maps.kept kept.now.epoch)) }
+    ensures grows { IndexGrows index.old index.new }
 {
-    add_map(listed, alloc, timeline, place_of(kept))
+    add_map(index, alloc, timeline, place_of(kept))
 }
 
 // Lists the partitions of the maps of these epochs.
 #[tactic(auto, using(crate::proofs::MapWalks::each_epoch))]
 fn add_kept(
-    listed: &mut BrokerPartitions,
+    index: &mut PartitionIndex,
     alloc: Global,
     timeline: &Partitions,
     kept: &VecDeque<KeptCounts>,
 ) -> Result<(), NoMemory>
     requires { HaveSameEpochs timeline.now.maps.kept kept.now.items }
-    ensures lists { OnOk result (AreListed listed.new timeline.now.maps.kept) }
-    ensures grows { Grows listed.old listed.new }
+    ensures lists { OnOk result (InKept (IsIndexOf index.new) timeline.now.maps.kept) }
+    ensures grows { IndexGrows index.old index.new }
 {
     timeline.epochs();
     for k in kept {
-        add_epoch(listed, alloc, timeline, k)?;
+        add_epoch(index, alloc, timeline, k)?;
     }
     Ok(())
 }
 
-/// Of each broker the keys of the partitions that it has a replica of, in the present map and in those of these epochs, which
-/// are all that are kept.
+/// An index of the present map and of those of these epochs, which are all that are kept.
 #[tactic(auto, using(crate::proofs::MapWalks::all_listed))]
-pub(crate) fn keys_of_maps(
+pub(crate) fn index_of_maps(
     alloc: Global,
     timeline: &Partitions,
     kept: &VecDeque<KeptCounts>,
-) -> Result<BrokerPartitions, NoMemory>
+) -> Result<PartitionIndex, NoMemory>
     requires { HaveSameEpochs timeline.now.maps.kept kept.now.items }
-    ensures { IfOk result (λ listed. ListsAll listed timeline.now.maps) }
+    ensures { IfOk result (λ index. InAll (IsIndexOf index) timeline.now.maps) }
 {
-    let mut listed = BrokerPartitions::new(alloc);
-    add_map(&mut listed, alloc, timeline, At::Tip)?;
-    add_kept(&mut listed, alloc, timeline, kept)?;
-    Ok(listed)
+    let mut index = no_index(alloc);
+    add_map(&mut index, alloc, timeline, At::Tip)?;
+    add_kept(&mut index, alloc, timeline, kept)?;
+    Ok(index)
 }
