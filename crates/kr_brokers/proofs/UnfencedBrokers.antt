@@ -26,7 +26,7 @@ use Rattle.kr_defs.proofs.Walks.{behind_apart}
 use Rattle.kr_calls.specs.BrokerHeartbeat.{electing, waits_for}
 use Rattle.kr_replicas.specs.BrokerPartitions.{has_replica}
 use Rattle.kr_replication.specs.BrokerIds.{ids_where}
-use Rattle.kr_replication.specs.BrokerWalks.{ConcernsOnly}
+use Rattle.kr_replication.specs.ListedWalks.{ConcernsOnly}
 use Rattle.kr_brokers.specs.Unfencing.{active_with, electing_with}
 
 module _ (b : ℤ) where

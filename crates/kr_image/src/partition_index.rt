@@ -1,6 +1,6 @@
 //! The keys of partitions that are looked for by a broker, or because a replica stands by.
 
-ghost use Rattle.std.specs.Prelude.{◌≡◌, ◌&&◌, not, [], true, Some, OnOk};
+ghost use Rattle.std.specs.Prelude.{◌≡◌, [], true, Some, OnOk};
 ghost use Rattle.std.specs.Bool.{OnTrue};
 ghost use Rattle.std.specs.Option.{option_map};
 ghost use Rattle.kr_defs.specs.Ids.{has};
@@ -11,7 +11,7 @@ ghost use Rattle.kr_image.specs.inner.PartitionKeys.{HasKey, IndexGrows, IsIndex
 
 use kr_base::NoMemory;
 use kr_defs::{Ids, Partition};
-use kr_replicas::{BrokerPartitions, PartitionKeys};
+use kr_replicas::{BrokerPartitions, PartitionKeys, has_standing_by};
 use kr_timeline::Timeline;
 use std::alloc::Global;
 
@@ -32,13 +32,6 @@ pub(crate) fn no_index(alloc: Global) -> PartitionIndex
         listed: BrokerPartitions::new(alloc),
         standing: PartitionKeys::new(alloc),
     }
-}
-
-// A replica of the partition stands by.
-fn has_standing_by(partition: &Partition) -> bool
-    ensures { result ≡ has_standing_by partition.now }
-{
-    !(partition.eligible.is_empty() && partition.last_known.is_empty())
 }
 
 // The key is among those of the partitions that a replica stands by of, if one does.

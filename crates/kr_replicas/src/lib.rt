@@ -3,6 +3,8 @@
 
 mod brokers;
 mod keys;
+mod standing;
 
 pub use brokers::BrokerPartitions;
 pub use keys::PartitionKeys;
+pub use standing::has_standing_by;

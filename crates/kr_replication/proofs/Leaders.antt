@@ -22,7 +22,7 @@ use Rattle.kr_defs.proofs.Tests.{both, or_right}
 use Rattle.kr_defs.proofs.Walks.{own_entries}
 use Rattle.kr_replicas.specs.BrokerPartitions.{AreAtLeast, has_replica, is_among}
 use Rattle.kr_replicas.proofs.Partitions.{same_partition}
-use Rattle.kr_replication.specs.BrokerWalks.{leads_any, leads_at}
+use Rattle.kr_replication.specs.ListedWalks.{leads_any, leads_at}
 
 abbrev Key : Type 0
 Key = ℕ × ℤ

@@ -34,7 +34,7 @@ use Rattle.kr_defs.proofs.TopicWalks.{equal_ids, same_topic}
 use Rattle.kr_defs.proofs.Walks.{own_entries}
 use Rattle.kr_replicas.specs.BrokerPartitions.{AreAtLeast, has_replica, is_among}
 use Rattle.kr_replicas.proofs.Partitions.{same_partition}
-use Rattle.kr_replication.specs.BrokerWalks.{ConcernsOnly, keys_of_topic, last_of, names_of, records_of_keys, records_of_names, with_name}
+use Rattle.kr_replication.specs.ListedWalks.{ConcernsOnly, keys_of_topic, last_of, names_of, records_of_keys, records_of_names, with_name}
 use Rattle.kr_replication.proofs.Supersets.{IsCovered, superset}
 use Rattle.kr_store.specs.Images.{topic_of}
 
@@ -280,7 +280,7 @@ module _ (change : Walked → Option PartitionChange) (image : Image) (test : Pa
     covered name id es l.1 i.1 f.1,
   )
 
-  topic_changes : (name : List ℕ) (id : ℕ) → records_of_keys change image name (keys_of_topic id keys) ≡ changes_of change (walk_topic ps (name, id))
+  pub topic_changes : (name : List ℕ) (id : ℕ) → records_of_keys change image name (keys_of_topic id keys) ≡ changes_of change (walk_topic ps (name, id))
   topic_changes name id =
       let ks = keys_of_topic id keys in
       looked_up name id ks (all_pass (λ k. (k.0 == id) ≡ true) (is_of id) keys (in_topic id))

@@ -1,3 +1,3 @@
 pub mod AgreeingNames
 pub mod BrokerIds
-pub mod BrokerWalks
+pub mod ListedWalks

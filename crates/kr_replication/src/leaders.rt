@@ -4,7 +4,7 @@ ghost use Rattle.std.specs.Prelude.{◌≡◌, IsSome};
 ghost use Rattle.std.specs.Ordering.{int_cmp, int_eq};
 ghost use Rattle.kr_calls.specs.BrokerHeartbeat as broker_heartbeat;
 ghost use Rattle.kr_defs.specs.Map as entries;
-ghost use Rattle.kr_replication.specs.BrokerWalks.{leads_any, leads_at};
+ghost use Rattle.kr_replication.specs.ListedWalks.{leads_any, leads_at};
 
 use kr_defs::Partition;
 use kr_replicas::PartitionKeys;

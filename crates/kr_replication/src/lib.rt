@@ -2,17 +2,19 @@
 //! a broker out.
 #![tactic(auto)]
 
-mod broker_walks;
 mod brokers;
 mod collision;
 mod electing;
 mod leaders;
+mod listed_walks;
 mod partitions;
 mod settings;
 mod taking_out;
 mod topics;
 
-pub use broker_walks::add_changes_of_broker;
+pub use listed_walks::{
+    add_changes_of_broker, add_standing_changes, add_standing_changes_of_topic,
+};
 pub use brokers::{ActiveOnes, BrokerTest, active, brokers_where, is_active};
 pub use collision::has_agreeing_name;
 pub use electing::{build_with, build_without, is_accepted};

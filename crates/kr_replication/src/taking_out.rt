@@ -6,7 +6,7 @@ ghost use Rattle.kr_defs.specs.Ids.{without};
 ghost use Rattle.kr_defs.specs.declared.record.Record.TheVariants as kinds;
 ghost use Rattle.kr_calls.specs.TakingOut as taking;
 
-use crate::broker_walks::add_changes_of_broker;
+use crate::listed_walks::add_changes_of_broker;
 use crate::electing::build_without;
 use crate::partitions::Change;
 use kr_base::NoMemory;

@@ -1,5 +1,5 @@
 use Rattle.std.proofs.Common.{◌≡◌}
-use Rattle.kr_replication.specs.BrokerWalks.{leads_any}
+use Rattle.kr_replication.specs.ListedWalks.{leads_any}
 use Rattle.kr_replication.proofs.leaders.leads_any.Given as goal
 
 abbrev pub invariant-loop-key : goal.invariant-loop-key

@@ -1,12 +1,12 @@
-//! Walks over the partitions that are listed for a broker.
+//! Walks over the partitions whose keys are listed.
 
 ghost use Rattle.std.specs.Prelude.{◌≡◌, ◌++◌, false, [], IfOk, OnOk, Some, fold};
 ghost use Rattle.std.specs.List.Sorted.{IsStrictlySortedBy};
 ghost use Rattle.kr_defs.specs.Map as entries;
 ghost use Rattle.kr_defs.specs.Map.{text_order};
 ghost use Rattle.kr_defs.specs.Walk.{changes_of, walk, walk_topic};
-ghost use Rattle.kr_replicas.specs.BrokerPartitions.{AreAtLeast, has_replica};
-ghost use Rattle.kr_replication.specs.BrokerWalks.{ConcernsOnly, keys_of_topic, last_of, names_of, records_in_topic, records_of_keys, records_of_names, with_name};
+ghost use Rattle.kr_replicas.specs.BrokerPartitions.{has_replica, has_standing_by};
+ghost use Rattle.kr_replication.specs.ListedWalks.{ConcernsOnly, Covers, keys_of_topic, last_of, names_of, records_in_topic, records_of_keys, records_of_names, with_name};
 
 use crate::partitions::{Change, add_change};
 use kr_base::NoMemory;
@@ -121,18 +121,15 @@ fn add_of_names<C: Change, S: Store>(
     Ok(())
 }
 
-// Adds the changes of all partitions, where the keys are at least those of the partitions that the rule can change: those that
-// have the broker as a replica.
+// Adds the changes of all partitions, by the name of their topic and then by index. Only those of these keys are looked at.
 fn add_changes_of_keys<C: Change, S: Store>(
     alloc: Global,
     seen: &Seen<S>,
     rule: &C,
-    broker: &i32,
     keys: &PartitionKeys,
     records: &mut Records,
 ) -> Result<(), NoMemory>
-    requires listed { AreAtLeast keys.now (has_replica broker.now) seen.now.partitions }
-    requires concerns { ConcernsOnly (has_replica broker.now) (C.change rule.now seen.now) }
+    requires { Covers keys.now (C.change rule.now seen.now) seen.now.partitions }
     ensures { OnOk result (records.new ≡ records.old ++
         changes_of (C.change rule.now seen.now) (walk seen.now)) }
 {
@@ -159,6 +156,41 @@ pub fn add_changes_of_broker<C: Change, S: Store>(
     seen.is_valid();
     match seen.keys_of(broker) {
         None => Ok(()),
-        Some(keys) => add_changes_of_keys(alloc, seen, rule, broker, keys, records),
+        Some(keys) => add_changes_of_keys(alloc, seen, rule, keys, records),
     }
+}
+
+/// Adds the changes of all partitions, by the name of their topic and then by index, where the rule changes none that no replica
+/// stands by of. Only the partitions are looked at whose keys are listed since one does.
+pub fn add_standing_changes<C: Change, S: Store>(
+    alloc: Global,
+    seen: &Seen<S>,
+    rule: &C,
+    records: &mut Records,
+) -> Result<(), NoMemory>
+    requires { ConcernsOnly has_standing_by (C.change rule.now seen.now) }
+    ensures { OnOk result (records.new ≡ records.old ++
+        changes_of (C.change rule.now seen.now) (walk seen.now)) }
+{
+    let keys = seen.standing();
+    add_changes_of_keys(alloc, seen, rule, keys, records)
+}
+
+/// The same of the partitions of one topic, by index.
+pub fn add_standing_changes_of_topic<C: Change, S: Store>(
+    alloc: Global,
+    seen: &Seen<S>,
+    rule: &C,
+    name: &Text,
+    id: &u128,
+    records: &mut Records,
+) -> Result<(), NoMemory>
+    requires { ConcernsOnly has_standing_by (C.change rule.now seen.now) }
+    ensures { OnOk result (records.new ≡ records.old ++
+        changes_of (C.change rule.now seen.now) (walk_topic seen.now.partitions (name.now, id.now))) }
+{
+    seen.is_valid();
+    let keys = seen.standing();
+    keys.as_set();
+    add_listed(alloc, seen, rule, name, id, keys, records)
 }

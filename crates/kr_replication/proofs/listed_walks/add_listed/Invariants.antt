@@ -1,6 +1,6 @@
 use Rattle.std.proofs.Common.{◌≡◌, ◌++◌}
-use Rattle.kr_replication.specs.BrokerWalks.{keys_of_topic, records_of_keys}
-use Rattle.kr_replication.proofs.broker_walks.add_listed.Given as goal
+use Rattle.kr_replication.specs.ListedWalks.{keys_of_topic, records_of_keys}
+use Rattle.kr_replication.proofs.listed_walks.add_listed.Given as goal
 
 abbrev pub invariant-loop-key : goal.invariant-loop-key
 invariant-loop-key g l =

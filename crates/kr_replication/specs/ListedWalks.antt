@@ -14,11 +14,18 @@ use Rattle.kr_defs.specs.Map as entries
 use Rattle.kr_defs.specs.Map.{partition_order, text_order}
 use Rattle.kr_defs.specs.Partition.{is_well_formed}
 use Rattle.kr_defs.specs.Walk.{Walked, change_of}
+use Rattle.kr_replicas.specs.BrokerPartitions.{AreAtLeast}
 use Rattle.kr_store.specs.Images.{topic_with}
 
 -- a well-formed partition that doesn't pass the test isn't changed
 abbrev pub ConcernsOnly : (Partition → Bool) → (Walked → Option PartitionChange) → Type 0
 ConcernsOnly test change = (w : Walked) → is_well_formed w.partition ≡ true → test w.partition ≡ false → change w ≡ None
+
+-- the change is of partitions alone that pass a test, and these keys are at least those of them
+pub record Covers (keys : List (ℕ × ℤ)) (change : Walked → Option PartitionChange) (partitions : List ((ℕ × ℤ) × Partition)) : Type 0 where
+  pub test : Partition → Bool
+  pub least : AreAtLeast keys test partitions
+  pub concerns : ConcernsOnly test change
 
 -- the name of the key's topic, where there is one, with its id
 abbrev pub with_name : List (List ℕ × ℕ) → List (List ℕ × ℕ) → ℕ × ℤ → List (List ℕ × ℕ)

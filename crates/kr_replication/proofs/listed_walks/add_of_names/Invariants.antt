@@ -1,6 +1,6 @@
 use Rattle.std.proofs.Common.{◌≡◌, ◌++◌}
-use Rattle.kr_replication.specs.BrokerWalks.{records_of_names}
-use Rattle.kr_replication.proofs.broker_walks.add_of_names.Given as goal
+use Rattle.kr_replication.specs.ListedWalks.{records_of_names}
+use Rattle.kr_replication.proofs.listed_walks.add_of_names.Given as goal
 
 abbrev pub invariant-loop-name : goal.invariant-loop-name
 invariant-loop-name g l =
