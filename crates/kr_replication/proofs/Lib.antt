@@ -1,6 +1,5 @@
 pub mod AgreeingNames
 pub mod BrokerIds
-pub mod Changes
 pub mod Counts
 pub mod EntryTests
 pub mod Leaders

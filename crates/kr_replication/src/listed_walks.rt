@@ -8,7 +8,7 @@ ghost use Rattle.kr_defs.specs.Walk.{changes_of, walk, walk_topic};
 ghost use Rattle.kr_replicas.specs.BrokerPartitions.{has_replica, has_standing_by};
 ghost use Rattle.kr_replication.specs.ListedWalks.{ConcernsOnly, Covers, keys_of_topic, last_of, names_of, records_in_topic, records_of_keys, records_of_names, with_name};
 
-use crate::partitions::{Change, add_change};
+use crate::changes::{Change, add_change};
 use kr_base::NoMemory;
 use kr_defs::limits::LAST_INDEX;
 use kr_defs::{Copied, Records, Text};

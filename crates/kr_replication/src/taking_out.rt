@@ -8,7 +8,7 @@ ghost use Rattle.kr_calls.specs.TakingOut as taking;
 
 use crate::listed_walks::add_changes_of_broker;
 use crate::electing::build_without;
-use crate::partitions::Change;
+use crate::changes::Change;
 use kr_base::NoMemory;
 use kr_defs::{Copied, Ids, Mode, Partition, PartitionChange, Record, Records, Text, Want};
 use kr_store::{Seen, Store};
