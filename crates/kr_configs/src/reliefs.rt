@@ -223,7 +223,7 @@ fn add_topic_reliefs<S: Store>(
                 seen,
                 relief,
                 &relief.entry.name,
-                &id,
+                id,
                 records,
             )?;
             Ok(())

@@ -11,7 +11,7 @@ use Rattle.kr_defs.specs.declared.partition.Partition.{Partition}
 use Rattle.kr_defs.specs.Ids.{has}
 use Rattle.kr_defs.specs.Map.{get, insert, partition_order, remove}
 use Rattle.kr_defs.proofs.Tests.{some_is}
-use Rattle.kr_replicas.specs.BrokerPartitions.{Grows, KeepsKeys, Lists, has_standing_by, is_among, is_listed}
+use Rattle.kr_replicas.specs.BrokerPartitions.{Grows, KeepsKeys, Lists, has_standing_by, holds_key, lists_key}
 use Rattle.kr_replicas.proofs.Partitions.{among_itself, least_gone, least_more, least_none, least_set, listed_for, lists_gone, lists_more, lists_none, lists_set, more_keys, same_partition}
 use Rattle.kr_image.specs.declared.partition_index.PartitionIndex.{PartitionIndex}
 use Rattle.kr_image.specs.inner.PartitionKeys.{HasKey, IndexGrows, IsIndexOf}
@@ -28,21 +28,21 @@ Listed = List (ℤ × List Key)
 -- ---- the replicas of an entry are listed already
 
 known_for : (listed : Listed) (broker : ℤ) (key : Key) (replicas : List ℤ) (es : List Entry)
-    → AllByRecursion (λ (e : Entry). has e.1.replicas broker ≡ true → is_listed listed broker e.0 ≡ true) es
-    → option_map (λ (p : Partition). p.replicas) (get partition_order es key) ≡ Some replicas → has replicas broker ≡ true → is_listed listed broker key ≡ true
+    → AllByRecursion (λ (e : Entry). has e.1.replicas broker ≡ true → lists_key listed broker e.0 ≡ true) es
+    → option_map (λ (p : Partition). p.replicas) (get partition_order es key) ≡ Some replicas → has replicas broker ≡ true → lists_key listed broker key ≡ true
 known_for listed broker key replicas [] a found there = absurd cc
 known_for listed broker key replicas (e ∷ es) a found there =
-    elim (partition_order key e.0) as (λ r. partition_order key e.0 ≡ r → option_map (λ (p : Partition). p.replicas) (cond (is_eq r) (Some e.1) (get partition_order es key)) ≡ Some replicas → is_listed listed broker key ≡ true) [
+    elim (partition_order key e.0) as (λ r. partition_order key e.0 ≡ r → option_map (λ (p : Partition). p.replicas) (cond (is_eq r) (Some e.1) (get partition_order es key)) ≡ Some replicas → lists_key listed broker key ≡ true) [
       | Less ↦ λ is found. known_for listed broker key replicas es a.1 found there
       | Equal ↦ λ is found.
           let same : has e.1.replicas broker ≡ true = subst (λ (ids : List ℤ). has ids broker ≡ true) (sym (some_is e.1.replicas replicas found)) there in
-          subst (λ (k : Key). is_listed listed broker k ≡ true) (sym (same_partition key e.0 is)) (a.0 same)
+          subst (λ (k : Key). lists_key listed broker k ≡ true) (sym (same_partition key e.0 is)) (a.0 same)
       | Greater ↦ λ is found. known_for listed broker key replicas es a.1 found there
     ] refl found
 
-pub known_listed : (listed : Listed) (es : List Entry) (key : Key) (replicas : List ℤ) → Lists listed es → option_map (λ (p : Partition). p.replicas) (get partition_order es key) ≡ Some replicas → (broker : ℤ) → has replicas broker ≡ true → is_listed listed broker key ≡ true
+pub known_listed : (listed : Listed) (es : List Entry) (key : Key) (replicas : List ℤ) → Lists listed es → option_map (λ (p : Partition). p.replicas) (get partition_order es key) ≡ Some replicas → (broker : ℤ) → has replicas broker ≡ true → lists_key listed broker key ≡ true
 known_listed listed es key replicas lists found broker there =
-    known_for listed broker key replicas es (recursion_from_All (λ (e : Entry). has e.1.replicas broker ≡ true → is_listed listed broker e.0 ≡ true) es (lists broker)) found there
+    known_for listed broker key replicas es (recursion_from_All (λ (e : Entry). has e.1.replicas broker ≡ true → lists_key listed broker e.0 ≡ true) es (lists broker)) found there
 
 pub still_listed : (listed : Listed) → Grows listed listed
 still_listed listed broker key there = there
@@ -54,8 +54,8 @@ pub ruleset listed = (known_listed, listed_for, still_listed)
 pub still_among : (keys : List Key) → KeepsKeys keys keys
 still_among keys key there = there
 
-pub put_among : (before after : List Key) (key : Key) → after ≡ insert_key partition_order before key → is_among after key ≡ true
-put_among before after key is = subst (λ (keys : List Key). is_among keys key ≡ true) (sym is) (among_itself before key)
+pub put_among : (before after : List Key) (key : Key) → after ≡ insert_key partition_order before key → holds_key after key ≡ true
+put_among before after key is = subst (λ (keys : List Key). holds_key keys key ≡ true) (sym is) (among_itself before key)
 
 pub put_keeps : (before after : List Key) (key : Key) → after ≡ insert_key partition_order before key → KeepsKeys before after
 put_keeps before after key is = subst (KeepsKeys before) (sym is) (more_keys before key)

@@ -16,7 +16,7 @@ use Rattle.kr_defs.specs.KeptMaps.{Kept, KeptMaps}
 use Rattle.kr_defs.specs.Map.{IsMap, above, next, partition_order}
 use Rattle.kr_defs.proofs.ImageParts.{partition_total}
 use Rattle.kr_defs.proofs.Walks.{walk_end, walk_next}
-use Rattle.kr_replicas.specs.BrokerPartitions.{has_standing_by, is_among, is_listed}
+use Rattle.kr_replicas.specs.BrokerPartitions.{has_standing_by, holds_key, lists_key}
 use Rattle.kr_store.specs.declared.places.At.{At}
 use Rattle.kr_store.specs.declared.places.At.TheVariants as places
 use Rattle.kr_image.specs.declared.kept_counts.KeptCounts.{KeptCounts}
@@ -44,8 +44,8 @@ StillIndex ps left now = (later : PartitionIndex) → IndexGrows now later → I
 
 one_more : (later : PartitionIndex) (e : Entry) (rest : List Entry) → HasKey later e.0 e.1 → IsIndexOf later rest → IsIndexOf later (e ∷ rest)
 one_more later e rest own is =
-    let test : ℤ → Entry → Type 0 = λ broker d. has d.1.replicas broker ≡ true → is_listed later.listed broker d.0 ≡ true in
-    let stands : Entry → Type 0 = λ d. has_standing_by d.1 ≡ true → is_among later.standing d.0 ≡ true in
+    let test : ℤ → Entry → Type 0 = λ broker d. has d.1.replicas broker ≡ true → lists_key later.listed broker d.0 ≡ true in
+    let stands : Entry → Type 0 = λ d. has_standing_by d.1 ≡ true → holds_key later.standing d.0 ≡ true in
     record {
       replicas = λ broker. All-from_recursion (test broker) (e ∷ rest) (own.replicas broker, recursion_from_All (test broker) rest (is.replicas broker));
       standing = All-from_recursion stands (e ∷ rest) (own.standing, recursion_from_All stands rest is.standing);

@@ -46,7 +46,8 @@ fn add_map(
     timeline: &Partitions,
     at: At,
 ) -> Result<(), NoMemory>
-    ensures lists { OnOk result (IsIndexOf index.new (unwrap_or (entries_at timeline.now.maps at) [])) }
+    ensures lists { OnOk result (IsIndexOf index.new
+        (unwrap_or (entries_at timeline.now.maps at) [])) }
     ensures grows { IndexGrows index.old index.new }
 {
     timeline.epochs();
@@ -71,7 +72,8 @@ fn add_epoch(
     timeline: &Partitions,
     kept: &KeptCounts,
 ) -> Result<(), NoMemory>
-    ensures lists { OnOk result (IsIndexOf index.new (map_in timeline.now.maps.kept kept.now.epoch)) }
+    ensures lists { OnOk result (IsIndexOf index.new
+        (map_in timeline.now.maps.kept kept.now.epoch)) }
     ensures grows { IndexGrows index.old index.new }
 {
     add_map(index, alloc, timeline, place_of(kept))

@@ -6,7 +6,7 @@ ghost use Rattle.std.specs.Option.{option_map};
 ghost use Rattle.kr_defs.specs.Ids.{has};
 ghost use Rattle.kr_defs.specs.Map as map;
 ghost use Rattle.kr_defs.specs.Map.{partition_order};
-ghost use Rattle.kr_replicas.specs.BrokerPartitions.{Grows, KeepsKeys, Lists, has_standing_by, is_among, is_listed};
+ghost use Rattle.kr_replicas.specs.BrokerPartitions.{Grows, KeepsKeys, Lists, has_standing_by, holds_key, lists_key};
 ghost use Rattle.kr_image.specs.inner.PartitionKeys.{HasKey, IndexGrows, IsIndexOf};
 
 use kr_base::NoMemory;
@@ -41,7 +41,8 @@ fn add_standing(
     key: &(u128, i32),
     partition: &Partition,
 ) -> Result<(), NoMemory>
-    ensures own { OnOk result (has_standing_by partition.now ≡ true → is_among standing.new key.now ≡ true) }
+    ensures own { OnOk result (has_standing_by partition.now ≡ true →
+        holds_key standing.new key.now ≡ true) }
     ensures keeps { KeepsKeys standing.old standing.new }
 {
     if !has_standing_by(partition) {
@@ -60,7 +61,7 @@ fn add_replicas(
     replicas: &Ids,
 ) -> Result<(), NoMemory>
     ensures own { OnOk result ((broker : ℤ) → has replicas.now broker ≡ true →
-        is_listed listed.new broker key.now ≡ true) }
+        lists_key listed.new broker key.now ≡ true) }
     ensures grows { Grows listed.old listed.new }
 {
     listed.add(alloc, key, replicas)
@@ -93,7 +94,7 @@ fn add_new_replicas(
 ) -> Result<(), NoMemory>
     requires lists { Lists listed.old timeline.now.maps.present }
     ensures own { OnOk result ((broker : ℤ) → has replicas.now broker ≡ true →
-        is_listed listed.new broker key.now ≡ true) }
+        lists_key listed.new broker key.now ≡ true) }
     ensures grows { Grows listed.old listed.new }
 {
     if has_replicas(timeline, key, replicas) {
@@ -106,7 +107,7 @@ fn add_new_replicas(
 impl PartitionIndex {
     /// Lists the key of a partition. Without memory it may be listed in part.
     #[tactic(auto, using(crate::proofs::IndexedMaps::standing))]
-    pub fn add(
+    pub(crate) fn add(
         &mut self,
         alloc: Global,
         key: &(u128, i32),
@@ -121,7 +122,7 @@ impl PartitionIndex {
 
     /// The same, where all partitions of the present map are listed. What had to be added is counted.
     #[tactic(auto, using(crate::proofs::IndexedMaps::standing))]
-    pub fn add_next(
+    pub(crate) fn add_next(
         &mut self,
         added: &mut u64,
         alloc: Global,

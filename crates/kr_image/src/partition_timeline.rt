@@ -54,7 +54,7 @@ impl Model for PartitionTimeline {
 impl PartitionTimeline {
     /// No partition, and no kept epoch.
     #[tactic(auto, using(crate::proofs::PartitionLists::listing))]
-    pub fn new(alloc: Global) -> PartitionTimeline
+    pub(crate) fn new(alloc: Global) -> PartitionTimeline
         ensures { result.maps ≡ no_maps }
     {
         PartitionTimeline {
@@ -65,7 +65,7 @@ impl PartitionTimeline {
     }
 
     /// The partitions alone.
-    pub fn timeline(&self) -> &Timeline<(u128, i32), Partition>
+    pub(crate) fn timeline(&self) -> &Timeline<(u128, i32), Partition>
         ensures { result.now ≡ self.now }
     {
         &self.timeline
@@ -73,7 +73,7 @@ impl PartitionTimeline {
 
     /// The keys that are listed for a broker.
     #[tactic(auto, using(crate::proofs::PartitionLists::looked_up))]
-    pub fn keys_of(&self, broker: &i32) -> Option<&PartitionKeys>
+    pub(crate) fn keys_of(&self, broker: &i32) -> Option<&PartitionKeys>
         ensures { InAll (AreAtLeast (keys_or_none (option_copied result))
             (has_replica broker.now)) self.now.maps }
     {
@@ -82,7 +82,7 @@ impl PartitionTimeline {
 
     /// The keys of the partitions that a replica stands by of.
     #[tactic(auto, using(crate::proofs::PartitionLists::standing_listed))]
-    pub fn standing(&self) -> &PartitionKeys
+    pub(crate) fn standing_keys(&self) -> &PartitionKeys
         ensures { InAll (AreAtLeast result.now has_standing_by) self.now.maps }
     {
         &self.index.standing
@@ -90,7 +90,7 @@ impl PartitionTimeline {
 
     /// Makes room for one more epoch.
     #[tactic(auto, using(crate::proofs::PartitionLists::listing))]
-    pub fn reserve(&mut self) -> Result<(), NoMemory>
+    pub(crate) fn reserve(&mut self) -> Result<(), NoMemory>
         ensures same { self.new.maps ≡ self.old.maps }
         ensures room { OnOk result (IsTrue self.new.has_room) }
     {
@@ -99,10 +99,12 @@ impl PartitionTimeline {
 
     /// Keeps the present map under the epoch. There is room for it.
     #[tactic(auto, using(crate::proofs::PartitionLists::listing))]
-    pub fn mark(&mut self, epoch: &i64)
+    pub(crate) fn mark(&mut self, epoch: &i64)
         requires room { IsTrue self.old.has_room }
         requires above { IsAbove self.old.maps.kept epoch.now }
-        ensures kept { self.new.maps.kept ≡ self.old.maps.kept ++ record { epoch = epoch.now; map = self.old.maps.present; made = self.old.maps.made } ∷ [] }
+        ensures kept { self.new.maps.kept ≡ self.old.maps.kept ++
+            record { epoch = epoch.now; map = self.old.maps.present; made = self.old.maps.made }
+            ∷ [] }
         ensures present { self.new.maps.present ≡ self.old.maps.present }
         ensures made { self.new.maps.made ≡ 0 }
     {
@@ -111,9 +113,10 @@ impl PartitionTimeline {
 
     /// Makes the map that is kept under the epoch the present one, and drops the later epochs. The epoch is kept.
     #[tactic(auto, using(crate::proofs::PartitionLists::listing))]
-    pub fn revert<L: Ledger>(&mut self, epoch: &i64, steps: &mut Steps<L>)
+    pub(crate) fn revert<L: Ledger>(&mut self, epoch: &i64, steps: &mut Steps<L>)
         requires { IsSome (map_at self.old.maps epoch.now) }
-        ensures kept { self.new.maps.kept ≡ filter (λ k. not (int_lt epoch.now k.epoch)) self.old.maps.kept }
+        ensures kept { self.new.maps.kept ≡
+            filter (λ k. not (int_lt epoch.now k.epoch)) self.old.maps.kept }
         ensures present { self.new.maps.present ≡ map_in self.old.maps.kept epoch.now }
         ensures made { self.new.maps.made ≡ 0 }
         ensures counted { steps.old ≤ steps.new }
@@ -125,7 +128,7 @@ impl PartitionTimeline {
 
     /// Makes the map that is kept under the epoch the present one, and keeps all epochs. The epoch is kept.
     #[tactic(auto, using(crate::proofs::PartitionLists::listing))]
-    pub fn restore(&mut self, epoch: &i64) -> Result<(), NoMemory>
+    pub(crate) fn restore(&mut self, epoch: &i64) -> Result<(), NoMemory>
         requires { IsSome (map_at self.old.maps epoch.now) }
         ensures kept { self.new.maps.kept ≡ self.old.maps.kept }
         ensures present { OnOk result
@@ -139,8 +142,9 @@ impl PartitionTimeline {
 
     /// Drops the kept epochs below this one.
     #[tactic(auto, using(crate::proofs::PartitionLists::listing))]
-    pub fn forget_below<L: Ledger>(&mut self, epoch: &i64, steps: &mut Steps<L>)
-        ensures kept { self.new.maps.kept ≡ oldest_unmade (filter (λ k. not (int_lt k.epoch epoch.now)) self.old.maps.kept) }
+    pub(crate) fn forget_below<L: Ledger>(&mut self, epoch: &i64, steps: &mut Steps<L>)
+        ensures kept { self.new.maps.kept ≡
+            oldest_unmade (filter (λ k. not (int_lt k.epoch epoch.now)) self.old.maps.kept) }
         ensures present { self.new.maps.present ≡ self.old.maps.present }
         ensures made { self.new.maps.made ≡ self.old.maps.made }
         ensures counted { steps.old ≤ steps.new }
@@ -151,7 +155,7 @@ impl PartitionTimeline {
 
     /// Gives the key the value, and counts an entry that is new.
     #[tactic(auto, using(crate::proofs::PartitionLists::listing))]
-    pub fn set_counted(
+    pub(crate) fn set_counted(
         &mut self,
         alloc: Global,
         count: &mut u32,
@@ -161,7 +165,8 @@ impl PartitionTimeline {
         requires counted { count.old ≡ length self.old.maps.present }
         requires few { length self.old.maps.present + 1 < 2 ^ 32 }
         requires ordered { map.IsMap partition_order self.old.maps.present }
-        ensures present { OnOk result (self.new.maps.present ≡ map.insert partition_order self.old.maps.present key value) }
+        ensures present { OnOk result (self.new.maps.present ≡
+            map.insert partition_order self.old.maps.present key value) }
         ensures kept { self.new.maps.kept ≡ self.old.maps.kept }
         ensures made { OnOk result (self.new.maps.made ≤ self.old.maps.made + 1) }
         ensures counted { OnOk result (count.new ≡ length self.new.maps.present) }
@@ -174,14 +179,15 @@ impl PartitionTimeline {
 
     /// Takes the key out, and counts an entry that goes.
     #[tactic(auto, using(crate::proofs::PartitionLists::listing))]
-    pub fn unset_counted(
+    pub(crate) fn unset_counted(
         &mut self,
         alloc: Global,
         count: &mut u32,
         key: &(u128, i32),
     ) -> Result<(), NoMemory>
         requires counted { count.old ≡ length self.old.maps.present }
-        ensures present { OnOk result (self.new.maps.present ≡ map.remove partition_order self.old.maps.present key.now) }
+        ensures present { OnOk result (self.new.maps.present ≡
+            map.remove partition_order self.old.maps.present key.now) }
         ensures kept { self.new.maps.kept ≡ self.old.maps.kept }
         ensures made { OnOk result (self.new.maps.made ≤ self.old.maps.made + 1) }
         ensures counted { OnOk result (count.new ≡ length self.new.maps.present) }
@@ -191,7 +197,7 @@ impl PartitionTimeline {
     }
     /// Makes the index anew, where so many keys were added since that it costs no more: what no map has any more isn't listed then.
     /// Without memory it stays as it is.
-    pub fn renew(&mut self, alloc: Global, partitions: u32, kept: &VecDeque<KeptCounts>)
+    pub(crate) fn renew(&mut self, alloc: Global, partitions: u32, kept: &VecDeque<KeptCounts>)
         requires { HaveSameEpochs self.old.maps.kept kept.now.items }
         ensures { self.new ≡ self.old }
     {

@@ -16,7 +16,7 @@ use Rattle.kr_defs.specs.Map.{get, insert, partition_order}
 use Rattle.kr_defs.proofs.IdLists.{id_itself, same_id}
 use Rattle.kr_defs.proofs.ImageParts.{partition_total}
 use Rattle.kr_defs.proofs.Walks.{get_other}
-use Rattle.kr_replicas.specs.BrokerPartitions.{Grows, IsListedFor, is_among, is_listed, with_key}
+use Rattle.kr_replicas.specs.BrokerPartitions.{Grows, IsListedFor, holds_key, lists_key, with_key}
 
 abbrev Key : Type 0
 Key = ℕ × ℤ
@@ -65,15 +65,15 @@ same_key key added k equal =
     let o = partition_total in
     o.antisymm key added ∙ (ap ordering_reverse (o.congr added k key equal) ∙ sym (o.antisymm key k))
 
-pub among_more : (keys : List Key) (added key : Key) → is_among (insert_key partition_order keys added) key ≡ (is_among keys key || is_eq (partition_order key added))
+pub among_more : (keys : List Key) (added key : Key) → holds_key (insert_key partition_order keys added) key ≡ (holds_key keys key || is_eq (partition_order key added))
 among_more [] added key = or_none (is_eq (partition_order key added))
 among_more (k ∷ ks) added key =
     let test = is_eq (partition_order key added) in
     let first = is_eq (partition_order key k) in
-    elim (partition_order added k) as (λ r. partition_order added k ≡ r → list_any (is_at (partition_order key)) (match_ordering r (added ∷ k ∷ ks) (k ∷ ks) (k ∷ insert_key partition_order ks added)) ≡ ((first || is_among ks key) || test)) [
-      | Less ↦ λ is. or_last test first (is_among ks key)
-      | Equal ↦ λ is. or_again first (is_among ks key) ∙ ap (λ r. (first || is_among ks key) || is_eq r) (sym (same_key key added k is))
-      | Greater ↦ λ is. ap (λ b. first || b) (among_more ks added key) ∙ or_inside first (is_among ks key) test
+    elim (partition_order added k) as (λ r. partition_order added k ≡ r → list_any (is_at (partition_order key)) (match_ordering r (added ∷ k ∷ ks) (k ∷ ks) (k ∷ insert_key partition_order ks added)) ≡ ((first || holds_key ks key) || test)) [
+      | Less ↦ λ is. or_last test first (holds_key ks key)
+      | Equal ↦ λ is. or_again first (holds_key ks key) ∙ ap (λ r. (first || holds_key ks key) || is_eq r) (sym (same_key key added k is))
+      | Greater ↦ λ is. ap (λ b. first || b) (among_more ks added key) ∙ or_inside first (holds_key ks key) test
     ] refl
 
 -- ---- one broker
@@ -82,7 +82,7 @@ same_test : (broker x y : ℤ) → is_eq (int_cmp broker x) ≡ true → is_eq (
 same_test broker x y h = ap (λ z. is_eq (int_cmp z y)) (same_id broker x h)
 
 abbrev has_key : Key → Option (List Key) → Bool
-has_key key found = option_map_or (λ keys. is_among keys key) found false
+has_key key found = option_map_or (λ keys. holds_key keys key) found false
 
 eq_back : (r : Ordering) → is_eq (ordering_reverse r) ≡ is_eq r
 eq_back Less = refl
@@ -149,7 +149,7 @@ grows_once listed after broker added is = grows_for (broker ∷ []) added listed
 
 -- what is listed, and what is once the key is listed for these too
 abbrev pub listed_with : List ℤ → Key → Listed → ℤ → Key → Bool
-listed_with brokers added listed broker key = is_listed listed broker key || (has brokers broker && is_eq (partition_order key added))
+listed_with brokers added listed broker key = lists_key listed broker key || (has brokers broker && is_eq (partition_order key added))
 
 abbrev pub Left : List ℤ → Key → Listed → List ℤ → Listed → Type 0
 Left brokers added before rest now = (broker : ℤ) (key : Key) → listed_with rest added now broker key ≡ listed_with brokers added before broker key
@@ -157,10 +157,10 @@ Left brokers added before rest now = (broker : ℤ) (key : Key) → listed_with 
 pub left_more : (brokers : List ℤ) (added : Key) (before now then : Listed) (broker : ℤ) (rest : List ℤ) → IsListedFor (broker ∷ []) added now then → Left brokers added before (broker ∷ rest) now → Left brokers added before rest then
 left_more brokers added before now then broker rest is left b key =
     let test = is_eq (partition_order key added) in
-    ap (λ c. c || (has rest b && test)) (is b key) ∙ (or_more (is_listed now b key) (int_eq broker b) (has rest b) test ∙ left b key)
+    ap (λ c. c || (has rest b && test)) (is b key) ∙ (or_more (lists_key now b key) (int_eq broker b) (has rest b) test ∙ left b key)
 
 pub left_none : (brokers : List ℤ) (added : Key) (before now : Listed) → Left brokers added before [] now → IsListedFor brokers added before now
-left_none brokers added before now left b key = sym (or_none (is_listed now b key)) ∙ left b key
+left_none brokers added before now left b key = sym (or_none (lists_key now b key)) ∙ left b key
 
 pub grows_then : (a b c : Listed) → Grows a b → Grows b c → Grows a c
 grows_then a b c one two broker key there = two broker key (one broker key there)

@@ -14,12 +14,12 @@ use Rattle.kr_defs.specs.Map as entries
 use Rattle.kr_defs.specs.Map.{partition_order}
 
 -- the key is one of them
-abbrev pub is_among : List (ℕ × ℤ) → ℕ × ℤ → Bool
-is_among keys key = list_any (is_at (partition_order key)) keys
+abbrev pub holds_key : List (ℕ × ℤ) → ℕ × ℤ → Bool
+holds_key keys key = list_any (is_at (partition_order key)) keys
 
 -- the key of the broker is listed
-abbrev pub is_listed : List (ℤ × List (ℕ × ℤ)) → ℤ → ℕ × ℤ → Bool
-is_listed listed broker key = option_map_or (λ keys. is_among keys key) (entries.get int_cmp listed broker) false
+abbrev pub lists_key : List (ℤ × List (ℕ × ℤ)) → ℤ → ℕ × ℤ → Bool
+lists_key listed broker key = option_map_or (λ keys. holds_key keys key) (entries.get int_cmp listed broker) false
 
 -- the keys that are found, none where nothing is
 abbrev pub keys_or_none : Option (List (ℕ × ℤ)) → List (ℕ × ℤ)
@@ -35,15 +35,15 @@ has_standing_by p = not (length p.eligible == 0 && length p.last_known == 0)
 
 -- these keys are at least those of the partitions that pass the test
 abbrev pub AreAtLeast : List (ℕ × ℤ) → (Partition → Bool) → List ((ℕ × ℤ) × Partition) → Type 0
-AreAtLeast keys test partitions = All (λ e. test e.1 ≡ true → is_among keys e.0 ≡ true) partitions
+AreAtLeast keys test partitions = All (λ e. test e.1 ≡ true → holds_key keys e.0 ≡ true) partitions
 
 -- what was among the keys still is
 abbrev pub KeepsKeys : List (ℕ × ℤ) → List (ℕ × ℤ) → Type 0
-KeepsKeys before after = (key : ℕ × ℤ) → is_among before key ≡ true → is_among after key ≡ true
+KeepsKeys before after = (key : ℕ × ℤ) → holds_key before key ≡ true → holds_key after key ≡ true
 
 -- of every broker at least the keys of the partitions that have it as a replica
 abbrev pub Lists : List (ℤ × List (ℕ × ℤ)) → List ((ℕ × ℤ) × Partition) → Type 0
-Lists listed partitions = (broker : ℤ) → All (λ e. has e.1.replicas broker ≡ true → is_listed listed broker e.0 ≡ true) partitions
+Lists listed partitions = (broker : ℤ) → All (λ e. has e.1.replicas broker ≡ true → lists_key listed broker e.0 ≡ true) partitions
 
 -- the key among those of the broker
 unfoldable pub with_key : ℕ × ℤ → List (ℤ × List (ℕ × ℤ)) → ℤ → List (ℤ × List (ℕ × ℤ))
@@ -52,9 +52,9 @@ with_key key listed broker =
 
 -- what was listed still is
 abbrev pub Grows : List (ℤ × List (ℕ × ℤ)) → List (ℤ × List (ℕ × ℤ)) → Type 0
-Grows before after = (broker : ℤ) (key : ℕ × ℤ) → is_listed before broker key ≡ true → is_listed after broker key ≡ true
+Grows before after = (broker : ℤ) (key : ℕ × ℤ) → lists_key before broker key ≡ true → lists_key after broker key ≡ true
 
 -- the key is listed for these brokers too, and nothing else is
 abbrev pub IsListedFor : List ℤ → ℕ × ℤ → List (ℤ × List (ℕ × ℤ)) → List (ℤ × List (ℕ × ℤ)) → Type 0
 IsListedFor brokers added before after =
-    (broker : ℤ) (key : ℕ × ℤ) → is_listed after broker key ≡ (is_listed before broker key || (has brokers broker && is_eq (partition_order key added)))
+    (broker : ℤ) (key : ℕ × ℤ) → lists_key after broker key ≡ (lists_key before broker key || (has brokers broker && is_eq (partition_order key added)))

@@ -71,7 +71,8 @@ fn add_key(
     key: &(u128, i32),
     broker: &i32,
 ) -> Result<(), NoMemory>
-    ensures added { OnOk result (IsListedFor (broker.now ∷ []) key.now listed.old.entries listed.new.entries) }
+    ensures added { OnOk result
+        (IsListedFor (broker.now ∷ []) key.now listed.old.entries listed.new.entries) }
     ensures grows { Grows listed.old.entries listed.new.entries }
 {
     put_key(listed, alloc, key, broker)

@@ -4,7 +4,7 @@ ghost use Rattle.std.specs.Prelude.{◌≡◌, [], IfOk, OnOk, OnErr, not};
 ghost use Rattle.std.specs.BTreeSet.{insert_key};
 ghost use Rattle.std.specs.List.Sorted.{IsStrictlySortedBy};
 ghost use Rattle.kr_defs.specs.Map.{partition_order};
-ghost use Rattle.kr_replicas.specs.BrokerPartitions.{is_among};
+ghost use Rattle.kr_replicas.specs.BrokerPartitions.{holds_key};
 
 use kr_base::NoMemory;
 use std::alloc::Global;
@@ -38,7 +38,7 @@ impl PartitionKeys {
 
     /// Adds a key, and says whether it is new. Without memory nothing changes.
     pub fn insert(&mut self, key: (u128, i32)) -> Result<bool, NoMemory>
-        ensures new { IfOk result (λ new. new ≡ not (is_among self.old key)) }
+        ensures new { IfOk result (λ new. new ≡ not (holds_key self.old key)) }
         ensures ok { OnOk result (self.new ≡ insert_key partition_order self.old key) }
         ensures err { OnErr result (self.new ≡ self.old) }
     {
@@ -47,7 +47,7 @@ impl PartitionKeys {
 
     /// The key is among them.
     pub fn contains(&self, key: &(u128, i32)) -> bool
-        ensures { result ≡ is_among self.now key.now }
+        ensures { result ≡ holds_key self.now key.now }
     {
         self.keys.contains(key)
     }

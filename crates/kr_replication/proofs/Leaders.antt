@@ -20,7 +20,7 @@ use Rattle.kr_defs.proofs.IdLists.{all_at}
 use Rattle.kr_defs.proofs.ImageParts.{partition_total}
 use Rattle.kr_defs.proofs.Tests.{both, or_right}
 use Rattle.kr_defs.proofs.Walks.{own_entries}
-use Rattle.kr_replicas.specs.BrokerPartitions.{AreAtLeast, has_replica, is_among}
+use Rattle.kr_replicas.specs.BrokerPartitions.{AreAtLeast, has_replica, holds_key}
 use Rattle.kr_replicas.proofs.Partitions.{same_partition}
 use Rattle.kr_replication.specs.ListedWalks.{leads_any, leads_at}
 
@@ -53,17 +53,17 @@ replica_led broker p natural formed leads =
 
 -- ---- what is led is among the listed keys, and the other way round
 
-some_at : (test : Key → Bool) (keys : List Key) (key : Key) → is_among keys key ≡ true → test key ≡ true → list_any test keys ≡ true
+some_at : (test : Key → Bool) (keys : List Key) (key : Key) → holds_key keys key ≡ true → test key ≡ true → list_any test keys ≡ true
 some_at test [] key among passes = absurd cc
 some_at test (k ∷ ks) key among passes =
-    elim (partition_order key k) as (λ r. partition_order key k ≡ r → (is_eq r || is_among ks key) ≡ true → list_any test (k ∷ ks) ≡ true) [
+    elim (partition_order key k) as (λ r. partition_order key k ≡ r → (is_eq r || holds_key ks key) ≡ true → list_any test (k ∷ ks) ≡ true) [
       | Less ↦ λ is among. or_right (test k) (list_any test ks) (some_at test ks key among passes)
       | Equal ↦ λ is among. ap (λ b. b || list_any test ks) (subst (λ (z : Key). test z ≡ true) (same_partition key k is) passes)
       | Greater ↦ λ is among. or_right (test k) (list_any test ks) (some_at test ks key among passes)
     ] refl among
 
 module _ (broker : ℤ) (natural : is_natural broker ≡ true) (keys : List Key) (all : List Entry) where
-  entry_led : (es : List Entry) → AllByRecursion (λ (e : Entry). get partition_order all e.0 ≡ Some e.1) es → AllByRecursion (λ (e : Entry). has e.1.replicas broker ≡ true → is_among keys e.0 ≡ true) es
+  entry_led : (es : List Entry) → AllByRecursion (λ (e : Entry). get partition_order all e.0 ≡ Some e.1) es → AllByRecursion (λ (e : Entry). has e.1.replicas broker ≡ true → holds_key keys e.0 ≡ true) es
       → AllByRecursion (λ (e : Entry). IsTrue (is_well_formed e.1)) es → list_any (λ (e : Entry). int_eq e.1.leader broker) es ≡ true → leads_any all broker keys ≡ true
   entry_led [] own least formed led = absurd cc
   entry_led (e ∷ es) own least formed led =
@@ -99,5 +99,5 @@ leads_listed image broker keys valid registered least =
     let natural = registered_natural broker image.brokers (recursion_from_All (λ (e : ℤ × Broker). IsTrue (has_numbers e.0 e.1)) image.brokers valid.brokers.numbers) registered in
     same_test (leads_any ps broker keys) (leads image broker) (key_led broker ps keys)
     (entry_led broker natural keys ps ps (own_entries partition_total ps valid.partitions.ordered)
-    (recursion_from_All (λ (e : Entry). has e.1.replicas broker ≡ true → is_among keys e.0 ≡ true) ps least)
+    (recursion_from_All (λ (e : Entry). has e.1.replicas broker ≡ true → holds_key keys e.0 ≡ true) ps least)
     (recursion_from_All (λ (e : Entry). IsTrue (is_well_formed e.1)) ps valid.partitions.well_formed))

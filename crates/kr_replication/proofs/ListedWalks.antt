@@ -32,9 +32,9 @@ use Rattle.kr_defs.proofs.Maps.{IsMap-insert}
 use Rattle.kr_defs.proofs.Tests.{both, neither, not_equal, not_true, or_right, some_is}
 use Rattle.kr_defs.proofs.TopicWalks.{equal_ids, same_topic}
 use Rattle.kr_defs.proofs.Walks.{own_entries}
-use Rattle.kr_replicas.specs.BrokerPartitions.{AreAtLeast, has_replica, is_among}
+use Rattle.kr_replicas.specs.BrokerPartitions.{AreAtLeast, has_replica, holds_key}
 use Rattle.kr_replicas.proofs.Partitions.{same_partition}
-use Rattle.kr_replication.specs.ListedWalks.{ConcernsOnly, keys_of_topic, last_of, names_of, records_of_keys, records_of_names, with_name}
+use Rattle.kr_replication.specs.ListedWalks.{ConcernsOnly, keys_of_topic, last_key, names_of_keys, records_of_keys, records_of_names, with_topic_name}
 use Rattle.kr_replication.proofs.Supersets.{IsCovered, superset}
 use Rattle.kr_store.specs.Images.{topic_of}
 
@@ -55,7 +55,7 @@ same_text x y is = exact_bytes x y is
 -- ---- the keys of a topic
 
 abbrev is_of : ℕ → Key → Bool
-is_of id key = range_contains partition_order (Excluded (id, negsuc 0)) (Included (last_of id)) key
+is_of id key = range_contains partition_order (Excluded (id, negsuc 0)) (Included (last_key id)) key
 
 in_topic : (id : ℕ) (key : Key) → is_of id key ≡ true → (key.0 == id) ≡ true
 in_topic id key h =
@@ -85,20 +85,20 @@ own_key x index h =
 from_topic : (id : ℕ) (key : Key) → (key.0 == id) ≡ true → is_index key.1 ≡ true → is_of id key ≡ true
 from_topic id key is h = subst (λ (x : ℕ). is_of x key ≡ true) (same_topic key.0 id is) (own_key key.0 key.1 h)
 
-among_kept : (test : Key → Bool) (keys : List Key) (key : Key) → is_among keys key ≡ true → test key ≡ true → is_among (filter test keys) key ≡ true
+among_kept : (test : Key → Bool) (keys : List Key) (key : Key) → holds_key keys key ≡ true → test key ≡ true → holds_key (filter test keys) key ≡ true
 among_kept test [] key h t = absurd cc
 among_kept test (k ∷ ks) key h t =
-    let kept : is_among ks key ≡ true → is_among (filter test (k ∷ ks)) key ≡ true = λ h.
-    elim (test k) as (λ b. is_among (cond b (k ∷ filter test ks) (filter test ks)) key ≡ true) [
-      | true ↦ or_right (is_eq (partition_order key k)) (is_among (filter test ks) key) (among_kept test ks key h t)
+    let kept : holds_key ks key ≡ true → holds_key (filter test (k ∷ ks)) key ≡ true = λ h.
+    elim (test k) as (λ b. holds_key (cond b (k ∷ filter test ks) (filter test ks)) key ≡ true) [
+      | true ↦ or_right (is_eq (partition_order key k)) (holds_key (filter test ks) key) (among_kept test ks key h t)
       | false ↦ among_kept test ks key h t
     ]
     in
-    elim (partition_order key k) as (λ r. partition_order key k ≡ r → (is_eq r || is_among ks key) ≡ true → is_among (filter test (k ∷ ks)) key ≡ true) [
+    elim (partition_order key k) as (λ r. partition_order key k ≡ r → (is_eq r || holds_key ks key) ≡ true → holds_key (filter test (k ∷ ks)) key ≡ true) [
       | Less ↦ λ is h. kept h
       | Equal ↦ λ is h.
           let passes : test k ≡ true = subst (λ (z : Key). test z ≡ true) (same_partition key k is) t in
-          ap (λ b. is_among (cond b (k ∷ filter test ks) (filter test ks)) key) passes ∙ ap (λ r. is_eq r || is_among (filter test ks) key) is
+          ap (λ b. holds_key (cond b (k ∷ filter test ks) (filter test ks)) key) passes ∙ ap (λ r. is_eq r || holds_key (filter test ks) key) is
       | Greater ↦ λ is h. kept h
     ] refl h
 
@@ -153,18 +153,18 @@ module _ (topics : List Named) where
         | false ↦ λ is found. found_in P ts id name a.1 found
       ] refl found
 
-  names_all : (P : Named → Type 0) → AllByRecursion P topics → (keys : List Key) (names : List Named) → AllByRecursion P names → AllByRecursion P (fold (with_name topics) names keys)
+  names_all : (P : Named → Type 0) → AllByRecursion P topics → (keys : List Key) (names : List Named) → AllByRecursion P names → AllByRecursion P (fold (with_topic_name topics) names keys)
   names_all P of [] names a = a
   names_all P of (k ∷ ks) names a =
-      names_all P of ks (with_name topics names k) (elim (topic_name topics k.0) as (λ o. topic_name topics k.0 ≡ o → AllByRecursion P (step names k o)) [
+      names_all P of ks (with_topic_name topics names k) (elim (topic_name topics k.0) as (λ o. topic_name topics k.0 ≡ o → AllByRecursion P (step names k o)) [
         | None ↦ λ is. a
         | Some name ↦ λ is. insert_all P names name k.0 a (found_in P topics k.0 name of is)
       ] refl)
 
-  names_ordered : (keys : List Key) (names : List Named) → IsMap text_order names → IsMap text_order (fold (with_name topics) names keys)
+  names_ordered : (keys : List Key) (names : List Named) → IsMap text_order names → IsMap text_order (fold (with_topic_name topics) names keys)
   names_ordered [] names s = s
   names_ordered (k ∷ ks) names s =
-      names_ordered ks (with_name topics names k) (elim (topic_name topics k.0) as (λ o. IsMap text_order (step names k o)) [
+      names_ordered ks (with_topic_name topics names k) (elim (topic_name topics k.0) as (λ o. IsMap text_order (step names k o)) [
         | None ↦ s
         | Some name ↦ IsMap-insert text_total names name k.0 s
       ])
@@ -190,23 +190,23 @@ module _ (topics : List Named) where
         | Greater ↦ λ is. or_right (is_eq (text_order k e.0)) (has_name (insert_entry text_order es k id) k) (added es k id)
       ] refl
 
-  names_stay : (keys : List Key) (names : List Named) (name : List ℕ) → has_name names name ≡ true → has_name (fold (with_name topics) names keys) name ≡ true
+  names_stay : (keys : List Key) (names : List Named) (name : List ℕ) → has_name names name ≡ true → has_name (fold (with_topic_name topics) names keys) name ≡ true
   names_stay [] names name h = h
   names_stay (k ∷ ks) names name h =
-      names_stay ks (with_name topics names k) name (elim (topic_name topics k.0) as (λ o. has_name (step names k o) name ≡ true) [
+      names_stay ks (with_topic_name topics names k) name (elim (topic_name topics k.0) as (λ o. has_name (step names k o) name ≡ true) [
         | None ↦ h
         | Some other ↦ stays names other k.0 name h
       ])
 
-  listed_named : (keys : List Key) (names : List Named) (key : Key) (name : List ℕ) → is_among keys key ≡ true → topic_name topics key.0 ≡ Some name → has_name (fold (with_name topics) names keys) name ≡ true
+  listed_named : (keys : List Key) (names : List Named) (key : Key) (name : List ℕ) → holds_key keys key ≡ true → topic_name topics key.0 ≡ Some name → has_name (fold (with_topic_name topics) names keys) name ≡ true
   listed_named [] names key name h named = absurd cc
   listed_named (k ∷ ks) names key name h named =
-      elim (partition_order key k) as (λ r. partition_order key k ≡ r → (is_eq r || is_among ks key) ≡ true → has_name (fold (with_name topics) (with_name topics names k) ks) name ≡ true) [
-        | Less ↦ λ is h. listed_named ks (with_name topics names k) key name h named
+      elim (partition_order key k) as (λ r. partition_order key k ≡ r → (is_eq r || holds_key ks key) ≡ true → has_name (fold (with_topic_name topics) (with_topic_name topics names k) ks) name ≡ true) [
+        | Less ↦ λ is h. listed_named ks (with_topic_name topics names k) key name h named
         | Equal ↦ λ is h.
             let own : topic_name topics k.0 ≡ Some name = subst (λ (z : Key). topic_name topics z.0 ≡ Some name) (same_partition key k is) named in
-            names_stay ks (with_name topics names k) name (ap (λ o. has_name (step names k o) name) own ∙ added names name k.0)
-        | Greater ↦ λ is h. listed_named ks (with_name topics names k) key name h named
+            names_stay ks (with_topic_name topics names k) name (ap (λ o. has_name (step names k o) name) own ∙ added names name k.0)
+        | Greater ↦ λ is h. listed_named ks (with_topic_name topics names k) key name h named
       ] refl h
 
 named_later : (t : Named) (ts us : List Named) → list_any (λ other. other == t.1) (values_of us) ≡ false → AllByRecursion (λ u. topic_name ts u.1 ≡ Some u.0) us → AllByRecursion (λ u. topic_name (t ∷ ts) u.1 ≡ Some u.0) us
@@ -253,13 +253,13 @@ module _ (change : Walked → Option PartitionChange) (image : Image) (test : Pa
       ∙ ap (λ rs. at name id k ++ rs) (looked_up name id ks a.1)
 
   abbrev Least : List Entry → Type 0
-  Least es = AllByRecursion (λ (e : Entry). test e.1 ≡ true → is_among keys e.0 ≡ true) es
+  Least es = AllByRecursion (λ (e : Entry). test e.1 ≡ true → holds_key keys e.0 ≡ true) es
 
   abbrev Formed : List Entry → Type 0
   Formed es = AllByRecursion (λ (e : Entry). IsTrue (is_well_formed e.1)) es
 
   least_all : Least ps
-  least_all = recursion_from_All (λ (e : Entry). test e.1 ≡ true → is_among keys e.0 ≡ true) ps least
+  least_all = recursion_from_All (λ (e : Entry). test e.1 ≡ true → holds_key keys e.0 ≡ true) ps least
 
   formed_all : Formed ps
   formed_all = recursion_from_All (λ (e : Entry). IsTrue (is_well_formed e.1)) ps valid.partitions.well_formed
@@ -309,7 +309,7 @@ module _ (change : Walked → Option PartitionChange) (image : Image) (test : Pa
       ∙ ap (λ rs. at_name t.0 ++ rs) (walked_names ts a.1))
 
   abbrev names : List Named
-  names = names_of image.topics keys
+  names = names_of_keys image.topics keys
 
   silent : (name : List ℕ) (id : ℕ) → topic_name image.topics id ≡ Some name → has_name image.topics names name ≡ false → (es : List Entry) → Least es → Formed es → changes_of change (map (walked name) (of_topic id es)) ≡ []
   silent name id named none [] l f = refl

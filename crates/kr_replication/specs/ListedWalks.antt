@@ -28,20 +28,20 @@ pub record Covers (keys : List (ℕ × ℤ)) (change : Walked → Option Partiti
   pub concerns : ConcernsOnly test change
 
 -- the name of the key's topic, where there is one, with its id
-abbrev pub with_name : List (List ℕ × ℕ) → List (List ℕ × ℕ) → ℕ × ℤ → List (List ℕ × ℕ)
-with_name topics names key = option_map_or (λ topic. entries.insert text_order names topic.name key.0) (topic_with topics key.0) names
+abbrev pub with_topic_name : List (List ℕ × ℕ) → List (List ℕ × ℕ) → ℕ × ℤ → List (List ℕ × ℕ)
+with_topic_name topics names key = option_map_or (λ topic. entries.insert text_order names topic.name key.0) (topic_with topics key.0) names
 
 -- the topics of these keys, by name
-abbrev pub names_of : List (List ℕ × ℕ) → List (ℕ × ℤ) → List (List ℕ × ℕ)
-names_of topics keys = fold (with_name topics) [] keys
+abbrev pub names_of_keys : List (List ℕ × ℕ) → List (ℕ × ℤ) → List (List ℕ × ℕ)
+names_of_keys topics keys = fold (with_topic_name topics) [] keys
 
 -- the last key that a partition of the topic can have
-abbrev pub last_of : ℕ → ℕ × ℤ
-last_of id = (id, LAST_INDEX)
+abbrev pub last_key : ℕ → ℕ × ℤ
+last_key id = (id, LAST_INDEX)
 
 -- the keys of the topic
 abbrev pub keys_of_topic : ℕ → List (ℕ × ℤ) → List (ℕ × ℤ)
-keys_of_topic id keys = filter (range_contains partition_order (Excluded (id, negsuc 0)) (Included (last_of id))) keys
+keys_of_topic id keys = filter (range_contains partition_order (Excluded (id, negsuc 0)) (Included (last_key id))) keys
 
 -- the record of the change of the partition with this key, where there are both
 abbrev pub records_in_topic : (Walked → Option PartitionChange) → Image → List ℕ → ℕ × ℤ → List Record

@@ -6,7 +6,7 @@ ghost use Rattle.kr_defs.specs.Map as entries;
 ghost use Rattle.kr_defs.specs.Map.{text_order};
 ghost use Rattle.kr_defs.specs.Walk.{changes_of, walk, walk_topic};
 ghost use Rattle.kr_replicas.specs.BrokerPartitions.{has_replica, has_standing_by};
-ghost use Rattle.kr_replication.specs.ListedWalks.{ConcernsOnly, Covers, keys_of_topic, last_of, names_of, records_in_topic, records_of_keys, records_of_names, with_name};
+ghost use Rattle.kr_replication.specs.ListedWalks.{ConcernsOnly, Covers, keys_of_topic, last_key, names_of_keys, records_in_topic, records_of_keys, records_of_names, with_topic_name};
 
 use crate::changes::{Change, add_change};
 use kr_base::NoMemory;
@@ -28,7 +28,8 @@ fn add_name<S: Store>(
     seen: &Seen<S>,
     key: &(u128, i32),
 ) -> Result<(), NoMemory>
-    ensures { OnOk result (names.new.entries ≡ with_name seen.now.topics names.old.entries key.now) }
+    ensures { OnOk result (names.new.entries ≡
+        with_topic_name seen.now.topics names.old.entries key.now) }
 {
     match seen.topic(&key.0) {
         None => Ok(()),
@@ -42,7 +43,7 @@ fn add_name<S: Store>(
 
 // The topics of the keys.
 fn names<S: Store>(alloc: Global, seen: &Seen<S>, keys: &PartitionKeys) -> Result<Names, NoMemory>
-    ensures { IfOk result (λ names. names.entries ≡ names_of seen.now.topics keys.now) }
+    ensures { IfOk result (λ names. names.entries ≡ names_of_keys seen.now.topics keys.now) }
 {
     let mut names = BTreeMap::new(alloc);
     for key in keys.as_set() {
@@ -73,8 +74,8 @@ fn add_at<C: Change, S: Store>(
 }
 
 // The last key that a partition of the topic can have.
-fn last_of(id: &u128) -> (u128, i32)
-    ensures { result ≡ last_of id.now }
+fn last_key(id: &u128) -> (u128, i32)
+    ensures { result ≡ last_key id.now }
 {
     (*id, LAST_INDEX)
 }
@@ -90,10 +91,11 @@ fn add_listed<C: Change, S: Store>(
     records: &mut Records,
 ) -> Result<(), NoMemory>
     ensures { OnOk result (records.new ≡ records.old ++
-        records_of_keys (C.change rule.now seen.now) seen.now name.now (keys_of_topic id.now keys.now)) }
+        records_of_keys (C.change rule.now seen.now) seen.now name.now
+            (keys_of_topic id.now keys.now)) }
 {
     let first = before_all(id);
-    let last = last_of(id);
+    let last = last_key(id);
     for key in keys
         .as_set()
         .range((Bound::Excluded(&first), Bound::Included(&last)))
@@ -172,7 +174,7 @@ pub fn add_standing_changes<C: Change, S: Store>(
     ensures { OnOk result (records.new ≡ records.old ++
         changes_of (C.change rule.now seen.now) (walk seen.now)) }
 {
-    let keys = seen.standing();
+    let keys = seen.standing_keys();
     add_changes_of_keys(alloc, seen, rule, keys, records)
 }
 
@@ -182,15 +184,15 @@ pub fn add_standing_changes_of_topic<C: Change, S: Store>(
     seen: &Seen<S>,
     rule: &C,
     name: &Text,
-    id: &u128,
+    id: u128,
     records: &mut Records,
 ) -> Result<(), NoMemory>
     requires { ConcernsOnly has_standing_by (C.change rule.now seen.now) }
     ensures { OnOk result (records.new ≡ records.old ++
-        changes_of (C.change rule.now seen.now) (walk_topic seen.now.partitions (name.now, id.now))) }
+        changes_of (C.change rule.now seen.now) (walk_topic seen.now.partitions (name.now, id))) }
 {
     seen.is_valid();
-    let keys = seen.standing();
+    let keys = seen.standing_keys();
     keys.as_set();
-    add_listed(alloc, seen, rule, name, id, keys, records)
+    add_listed(alloc, seen, rule, name, &id, keys, records)
 }

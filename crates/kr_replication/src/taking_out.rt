@@ -176,7 +176,8 @@ pub fn fencing_records<S: Store>(
     broker: &i32,
     epoch: &i64,
 ) -> Result<Records, NoMemory>
-    ensures { IfOk result (λ records. records ≡ taking.fencing minimum.now seen.now broker.now epoch.now) }
+    ensures { IfOk result (λ records. records ≡
+        taking.fencing minimum.now seen.now broker.now epoch.now) }
 {
     let mut records = Records::new(alloc);
     records.push(fence_record(broker, epoch))?;

@@ -129,11 +129,11 @@ impl<'a, S: Store> Seen<'a, S> {
     }
 
     /// Keys of partitions: at least of those that a replica stands by of.
-    pub fn standing(&self) -> &'a PartitionKeys
+    pub fn standing_keys(&self) -> &'a PartitionKeys
         ensures { AreAtLeast result.now has_standing_by self.now.partitions }
     {
         let store = self.store;
-        store.standing()
+        store.standing_keys()
     }
 
     /// The value of a setting.

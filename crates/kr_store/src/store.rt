@@ -62,7 +62,7 @@ pub trait Store {
             (has_replica broker.now) (images self.now) };
 
     /// Keys of partitions: at least of those that a replica stands by of, in the present image and in every kept one.
-    fn standing(&self) -> &PartitionKeys
+    fn standing_keys(&self) -> &PartitionKeys
         ensures { AreAtLeastEverywhere result.now has_standing_by (images self.now) };
 
     /// By id.

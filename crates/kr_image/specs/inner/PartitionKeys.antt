@@ -3,7 +3,7 @@ use Rattle.std.specs.Prelude.{◌≡◌, ℕ, ℤ, true, List, All, map}
 use Rattle.kr_defs.specs.declared.partition.Partition.{Partition}
 use Rattle.kr_defs.specs.Ids.{has}
 use Rattle.kr_defs.specs.KeptMaps.{Kept, KeptMaps}
-use Rattle.kr_replicas.specs.BrokerPartitions.{AreAtLeast, Grows, KeepsKeys, Lists, has_standing_by, is_among, is_listed}
+use Rattle.kr_replicas.specs.BrokerPartitions.{AreAtLeast, Grows, KeepsKeys, Lists, has_standing_by, holds_key, lists_key}
 use Rattle.kr_image.specs.declared.kept_counts.KeptCounts.{KeptCounts}
 use Rattle.kr_image.specs.declared.partition_index.PartitionIndex.{PartitionIndex}
 
@@ -14,8 +14,8 @@ pub record IsIndexOf (index : PartitionIndex) (partitions : List ((ℕ × ℤ) �
 
 -- the key of the partition is listed for its replicas, and among the keys of those that a replica stands by of, if one does
 pub record HasKey (index : PartitionIndex) (key : ℕ × ℤ) (p : Partition) : Type 0 where
-  pub replicas : (broker : ℤ) → has p.replicas broker ≡ true → is_listed index.listed broker key ≡ true
-  pub standing : has_standing_by p ≡ true → is_among index.standing key ≡ true
+  pub replicas : (broker : ℤ) → has p.replicas broker ≡ true → lists_key index.listed broker key ≡ true
+  pub standing : has_standing_by p ≡ true → holds_key index.standing key ≡ true
 
 -- what was listed still is
 pub record IndexGrows (before after : PartitionIndex) : Type 0 where
