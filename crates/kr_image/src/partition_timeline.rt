@@ -9,11 +9,10 @@ ghost use Rattle.kr_replicas.specs.BrokerPartitions.{AreAtLeast, has_replica, ha
 ghost use Rattle.kr_image.specs.Timelines.{calls_above, covered_in, map_in, undone_in};
 ghost use Rattle.kr_image.specs.inner.PartitionKeys.{HaveSameEpochs, InAll};
 
-use crate::entries;
 use crate::index_walks::index_of_maps;
-use crate::keeping;
 use crate::kept_counts::KeptCounts;
 use crate::partition_index::{PartitionIndex, no_index};
+use crate::{entries, keeping};
 use kr_base::{NoMemory, Steps};
 use kr_defs::Partition;
 use kr_replicas::PartitionKeys;

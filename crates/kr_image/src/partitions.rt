@@ -40,12 +40,8 @@ impl Timelines {
         ensures kept { keeps_of self.new ≡ keeps_of self.old }
         ensures made { OnOk result (made_of self.new ≤ made_of self.old + 1) }
     {
-        self.partitions.set_counted(
-            self.alloc,
-            &mut self.counts.partitions,
-            key,
-            state,
-        )?;
+        self.partitions
+            .set_counted(self.alloc, &mut self.counts.partitions, key, state)?;
         Ok(())
     }
 

@@ -92,7 +92,7 @@ fn add_listed<C: Change, S: Store>(
 ) -> Result<(), NoMemory>
     ensures { OnOk result (records.new ≡ records.old ++
         records_of_keys (C.change rule.now seen.now) seen.now name.now
-            (keys_of_topic id.now keys.now)) }
+        (keys_of_topic id.now keys.now)) }
 {
     let first = before_all(id);
     let last = last_key(id);

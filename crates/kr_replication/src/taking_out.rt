@@ -6,9 +6,9 @@ ghost use Rattle.kr_defs.specs.Ids.{without};
 ghost use Rattle.kr_defs.specs.declared.record.Record.TheVariants as kinds;
 ghost use Rattle.kr_calls.specs.TakingOut as taking;
 
-use crate::listed_walks::add_changes_of_broker;
-use crate::electing::build_without;
 use crate::changes::Change;
+use crate::electing::build_without;
+use crate::listed_walks::add_changes_of_broker;
 use kr_base::NoMemory;
 use kr_defs::{Copied, Ids, Mode, Partition, PartitionChange, Record, Records, Text, Want};
 use kr_store::{Seen, Store};
