@@ -64,7 +64,8 @@ fn add_replicas(
         lists_key listed.new broker key.now ≡ true) }
     ensures grows { Grows listed.old listed.new }
 {
-    listed.add(alloc, key, replicas)
+    listed.add(alloc, key, replicas)?;
+    Ok(())
 }
 
 // The entry of the key has these replicas.
@@ -101,7 +102,8 @@ fn add_new_replicas(
         return Ok(());
     }
     *added = added.saturating_add(1);
-    add_replicas(listed, alloc, key, replicas)
+    add_replicas(listed, alloc, key, replicas)?;
+    Ok(())
 }
 
 impl PartitionIndex {
@@ -117,7 +119,8 @@ impl PartitionIndex {
         ensures grows { IndexGrows self.old self.new }
     {
         add_replicas(&mut self.listed, alloc, key, &partition.replicas)?;
-        add_standing(&mut self.standing, key, partition)
+        add_standing(&mut self.standing, key, partition)?;
+        Ok(())
     }
 
     /// The same, where all partitions of the present map are listed. What had to be added is counted.
@@ -142,6 +145,7 @@ impl PartitionIndex {
             key,
             &partition.replicas,
         )?;
-        add_standing(&mut self.standing, key, partition)
+        add_standing(&mut self.standing, key, partition)?;
+        Ok(())
     }
 }
