@@ -12,7 +12,7 @@ mod settings;
 mod taking_out;
 mod topics;
 
-pub use brokers::{ActiveOnes, BrokerTest, active, brokers_where, is_active};
+pub use brokers::{ActiveOnes, BrokerTest, brokers_where, is_active};
 pub use changes::Change;
 pub use collision::has_agreeing_name;
 pub use electing::{build_with, build_without, is_accepted};
