@@ -1,6 +1,6 @@
 -- An index that is made by walks over all maps of a timeline is one of each.
 use Rattle.std.proofs.Common.{◌≡◌, ◌∙◌, ℕ, ℤ, true, false, ◌&&◌, ◌||◌, cond, List, [], ◌∷◌, refl, sym, ap, subst, map, find}
-use Rattle.std.specs.Prelude.{Option, Some, None, All, unwrap_or}
+use Rattle.std.specs.Prelude.{Option, Some, None, All, MatchOption, unwrap_or}
 use Rattle.std.specs.declared.cmp.Ordering.{Ordering}
 use Rattle.std.specs.declared.cmp.Ordering.TheVariants.{Less, Equal}
 use Rattle.std.specs.Ordering.{is_eq, int_cmp, int_eq}
@@ -65,6 +65,16 @@ still_more ps after e now new ordered found own more still later grows is =
 pub still_all : (ps : List Entry) (after : Option Key) (now : PartitionIndex) → None ≡ next partition_order ps after → StillIndex ps (above partition_order ps after) now → IsIndexOf now ps
 still_all ps after now none still =
     still now (grows_itself now) (subst (IsIndexOf now) (sym (walk_end (above partition_order ps after) (sym none))) (listed_none now))
+
+-- the next entry of a map, where there is one
+pub next_found : (o : Option (List Entry)) (after : Option Key) (e : Option Entry) → MatchOption o (false ≡ true) (λ (es : List Entry). e ≡ next partition_order es after) → e ≡ next partition_order (unwrap_or o []) after
+next_found None after e found = absurd cc
+next_found (Some es) after e found = found
+
+pub next_missing : (o : Option (List Entry)) (after : Option Key) → MatchOption o (true ≡ true) (λ (es : List Entry). ⊥) → None ≡ next partition_order (unwrap_or o []) after
+next_missing None None missing = refl
+next_missing None (Some key) missing = refl
+next_missing (Some es) after missing = absurd missing
 
 -- each map has its keys in order
 ordered_in : (epoch : ℤ) (kept : List KeptMap) → AllByRecursion (λ (k : KeptMap). IsMap partition_order k.map) kept → IsMap partition_order (map_in kept epoch)
