@@ -194,6 +194,7 @@ impl PartitionTimeline {
         entries::unset_counted(alloc, &mut self.timeline, count, key)?;
         Ok(())
     }
+
     /// Makes the index anew, where so many keys were added since that it costs no more: what no map has any more isn't listed then.
     /// Without memory it stays as it is.
     pub(crate) fn renew(&mut self, alloc: Global, partitions: u32, kept: &VecDeque<KeptCounts>)

@@ -88,6 +88,15 @@ key_led broker es (k ∷ ks) led =
       | false ↦ λ is led. key_led broker es ks led
     ] refl led
 
+-- a walk over the keys
+pub none_here : (es : List Entry) (broker : ℤ) (key : Key) (rest keys : List Key) → leads_at es broker key ≡ false → leads_any es broker (key ∷ rest) ≡ leads_any es broker keys → leads_any es broker rest ≡ leads_any es broker keys
+none_here es broker key rest keys none same = sym (ap (λ b. b || leads_any es broker rest) none) ∙ same
+
+pub one_here : (es : List Entry) (broker : ℤ) (key : Key) (rest keys : List Key) → leads_at es broker key ≡ true → leads_any es broker (key ∷ rest) ≡ leads_any es broker keys → true ≡ leads_any es broker keys
+one_here es broker key rest keys one same = sym (ap (λ b. b || leads_any es broker rest) one) ∙ same
+
+pub ruleset leading = (none_here, one_here)
+
 same_test : (a b : Bool) → (a ≡ true → b ≡ true) → (b ≡ true → a ≡ true) → a ≡ b
 same_test true b to from = sym (to refl)
 same_test false true to from = from refl
