@@ -1,6 +1,6 @@
 //! The keys of partitions that are looked for by a broker, or because a replica stands by.
 
-ghost use Rattle.std.specs.Prelude.{◌≡◌, [], true, Some, OnOk};
+ghost use Rattle.std.specs.Prelude.{◌≡◌, ℤ, [], true, Some, OnOk};
 ghost use Rattle.std.specs.Bool.{OnTrue};
 ghost use Rattle.std.specs.Option.{option_map};
 ghost use Rattle.kr_defs.specs.Ids.{has};
