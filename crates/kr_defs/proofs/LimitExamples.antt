@@ -4,7 +4,7 @@ use Rattle.std.specs.Prelude.{codes}
 use Rattle.std.specs.List.{range_with_len}
 use Rattle.kr_defs.specs.declared.broker.Broker.{Broker}
 use Rattle.kr_defs.specs.declared.ill.Ill.TheVariants.{Limit}
-use Rattle.kr_defs.specs.declared.limits.TheConstants.{MOST_CONFIG_TEXT, MOST_RECORDS, MOST_REQUEST_RECORDS, MOST_REQUEST_BYTES, IMAGE_BATCH, GREATEST_TIP, PLACES_END, MOST_MESSAGE_BYTES, MOST_FRAME_BYTES, MOST_LOAD_BYTES, MOST_SESSION_BYTES}
+use Rattle.kr_defs.specs.declared.limits.TheConstants.{MOST_CONFIG_TEXT, MOST_BATCH_BYTES, MOST_RECORDS, MOST_REQUEST_RECORDS, MOST_REQUEST_BYTES, IMAGE_BATCH, GREATEST_TIP, PLACES_END, MOST_MESSAGE_BYTES, MOST_FRAME_BYTES, MOST_LOAD_BYTES, MOST_SESSION_BYTES}
 use Rattle.kr_defs.specs.declared.options.Options.{Options}
 use Rattle.kr_defs.specs.declared.partition.Partition.{Partition}
 use Rattle.kr_defs.specs.Apply.{register_broker, add_topic, add_partition, set_feature_level}
@@ -240,6 +240,9 @@ node_below_0 = refl
 
 batch_records : MOST_RECORDS ≡ 10000
 batch_records = refl
+
+batch_bytes : MOST_BATCH_BYTES ≡ 8000000
+batch_bytes = refl
 
 request_records : MOST_REQUEST_RECORDS ≡ 10000
 request_records = refl

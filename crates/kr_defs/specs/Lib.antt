@@ -3,6 +3,8 @@ pub mod Brokers
 pub mod Build
 pub mod BuiltLaws
 pub mod Causes
+pub mod Cut
+pub mod CutLaws
 pub mod DefaultWant
 pub mod Elect
 pub mod Eligible

@@ -6,6 +6,7 @@ mod broker;
 mod built_laws;
 mod changing;
 mod copied;
+mod cut_laws;
 mod epoch_laws;
 mod forming;
 pub mod heartbeat_laws;
@@ -35,6 +36,7 @@ pub use built_laws::{
 };
 pub use changing::{Assignment, Choice, Facts, Mode, Want};
 pub use copied::Copied;
+pub use cut_laws::batches_hold_all;
 pub use epoch_laws::{forgetting_leaves_the_others, reverts_leave_the_others, reverts_restore};
 pub use forming::{are_replicas, is_part, is_reassignment, is_sensible, is_well_formed};
 pub use id_lists::{are_apart, is_distinct, is_within};

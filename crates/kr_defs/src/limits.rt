@@ -63,6 +63,9 @@ pub const GREATEST_EPOCH: i32 = 2147483647;
 /// Records of one batch.
 pub const MOST_RECORDS: usize = 10000;
 
+/// Bytes in the values of a batch that this controller writes.
+pub const MOST_BATCH_BYTES: usize = 8000000;
+
 /// Records that one request gives.
 pub const MOST_REQUEST_RECORDS: usize = 10000;
 
