@@ -8,6 +8,8 @@ pub mod DecisionMeanings
 mod ErrorExamples
 pub mod KeptByRequests
 pub mod OtherRequests
+mod PackedExamples
+pub mod PackedItems
 mod PartitionExamples
 mod ReadExamples
 mod RightAnswerExamples

@@ -17,7 +17,8 @@ use Rattle.kr_calls.specs.declared.events.Entry.TheVariants as entries
 use Rattle.kr_calls.specs.Decide.{work_of}
 use Rattle.kr_calls.specs.Deciding.{done, taken}
 use Rattle.kr_calls.specs.Refuse.{refuse}
-use Rattle.kr_calls.specs.RightAnswers.{AreRight, HaveRecords, IsRight}
+use Rattle.kr_calls.specs.Packed.{packed, place_taken}
+use Rattle.kr_calls.specs.RightAnswers.{AreRight, HaveItems, IsRight}
 use Rattle.kr_calls.specs.UnregisterBroker as unregister_broker
 use Rattle.kr_calls.proofs.Cluster.{basis, broker, options}
 
@@ -44,13 +45,13 @@ answered place count error = record {
 abbrev answer : AnswerKind → ℤ → Option Answered → Answer
 answer kind place decided = record { seat = 1; ticket = 3; place = place; kind = kind; answered = decided }
 
-records_there : HaveRecords (registered ∷ taken_out ∷ []) (pos 0) (kinds.RegisterBroker (pos 4) (broker (pos 0) true) ∷ kinds.UnregisterBroker (pos 4) (pos 0) ∷ [])
-records_there = ((0, omega arith, refl), ((1, omega arith, refl), tt))
+items_there : HaveItems (registered ∷ taken_out ∷ []) (pos 0) (items.Record (kinds.RegisterBroker (pos 4) (broker (pos 0) true)) ∷ items.Record (kinds.UnregisterBroker (pos 4) (pos 0)) ∷ [])
+items_there = ((0, omega arith, refl), ((1, omega arith, refl), tt))
 
 -- behind that the broker isn't known, and there is no record
 stands_without_records : IsRight options (registered ∷ taken_out ∷ []) (answer answer_kinds.Stands (pos 2) (Some (answered (pos 2) 0 BROKER_ID_NOT_REGISTERED)))
-unfolding apply apply_at apply_record work_of unregister_broker.decided done taken
-stands_without_records = (record { seat = refl; ticket = refl; place = refl; floor = refl }, record { count = refl; records = tt; reply = refl })
+unfolding apply apply_at apply_record work_of unregister_broker.decided done taken packed place_taken
+stands_without_records = (record { seat = refl; ticket = refl; place = refl; floor = refl }, record { count = refl; items = tt; reply = refl })
 
 -- what was appended and lost is refused, whatever the rules say
 lost : IsRight options (registered ∷ []) (answer answer_kinds.Lost (pos 1) (Some (answered (pos 1) 1 NOT_CONTROLLER)))

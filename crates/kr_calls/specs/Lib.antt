@@ -15,6 +15,8 @@ pub mod Metadata
 pub mod NewPartitions
 pub mod NextBasis
 pub mod NextBasisLaws
+pub mod Packed
+pub mod PackedLaws
 pub mod Refuse
 pub mod RightAnswers
 pub mod SafeChange

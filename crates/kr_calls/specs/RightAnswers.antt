@@ -1,8 +1,7 @@
 -- Which answers and pins are right in the entries before them. This project's own.
 use Rattle.std.specs.Prelude.{◌≡◌, ◌+ℤ◌, ℤ, pos, int_lt, not, IsTrue, List, [], ◌∷◌, ◌++◌, length, MatchOption, Contains}
 use Rattle.kr_defs.specs.declared.options.Options.{Options}
-use Rattle.kr_defs.specs.declared.record.Record.{Record}
-use Rattle.kr_defs.specs.declared.record.Item.TheVariants as items
+use Rattle.kr_defs.specs.declared.record.Item.{Item}
 use Rattle.kr_calls.specs.declared.answers.Answer.{Answer}
 use Rattle.kr_calls.specs.declared.answers.AnswerKind.{AnswerKind}
 use Rattle.kr_calls.specs.declared.answers.AnswerKind.TheVariants as kinds
@@ -10,23 +9,28 @@ use Rattle.kr_calls.specs.declared.answers.Answered.{Answered}
 use Rattle.kr_calls.specs.declared.errors.TheConstants.{NOT_CONTROLLER}
 use Rattle.kr_calls.specs.declared.events.Entry.{Entry}
 use Rattle.kr_calls.specs.declared.events.Entry.TheVariants as entries
-use Rattle.kr_calls.specs.Decide.{Decision, decide}
+use Rattle.kr_calls.specs.Decide.{Decision}
+use Rattle.kr_calls.specs.Packed.{decide_taken, items_of_write}
 use Rattle.kr_calls.specs.Refuse.{refuse}
 use Rattle.kr_calls.specs.SeatList.{end_of, image_below}
 
--- the records stand one behind the other from the place on
-abbrev pub HaveRecords : List Entry → ℤ → List Record → Type 0
-HaveRecords list place [] = Unit {0}
-HaveRecords list place (r ∷ records) = Contains list (entries.Item place (items.Record r)) × HaveRecords list (place +ℤ pos 1) records
+-- the items stand one behind the other from the place on
+abbrev pub HaveItems : List Entry → ℤ → List Item → Type 0
+HaveItems list place [] = Unit {0}
+HaveItems list place (item ∷ items) = Contains list (entries.Item place item) × HaveItems list (place +ℤ pos 1) items
 
 -- what the rules say of the call on the image below its place
 abbrev pub decided_below : Options → List Entry → Answered → Decision
-decided_below options before a = decide options (image_below a.place before) a.basis a.place a.call.request
+decided_below options before a = decide_taken options (image_below a.place before) a.basis a.place a.call.request
 
--- the records of the rules stand at its place, and its reply is theirs
+-- the items that are written of it
+abbrev pub items_below : Options → List Entry → Answered → List Item
+items_below options before a = items_of_write options (image_below a.place before) a.basis a.place a.call.request
+
+-- the items of the write stand at its place, and its reply is that of the rules
 pub record IsStanding (options : Options) (before : List Entry) (a : Answered) : Type 0 where
-  pub count : length (decided_below options before a).records ≡ a.count
-  pub records : HaveRecords before a.place (decided_below options before a).records
+  pub count : length (items_below options before a) ≡ a.count
+  pub items : HaveItems before a.place (items_below options before a)
   pub reply : a.reply ≡ (decided_below options before a).reply
 
 -- what is lost is refused by Kafka's NOT_CONTROLLER; of the other kinds nothing was decided

@@ -2,6 +2,7 @@
 
 ghost use Rattle.kr_calls.specs.MeaningLaws.{RecordsHaveMeanings};
 ghost use Rattle.kr_calls.specs.NextBasisLaws.{OtherRequestsLeaveBrokers};
+ghost use Rattle.kr_calls.specs.PackedLaws.{FittingRecordsStay, PackedItemsStand, WritesStand};
 ghost use Rattle.kr_calls.specs.SeatListLaws.{EndImages, ItemsInOrderCount, KeptImagesStay, PinImages, PinsStay};
 ghost use Rattle.kr_calls.specs.TakingOutLaws.{TakingOutIsNeverRefused, FencingIsNeverRefused, UnregisteringIsNeverRefused};
 
@@ -9,6 +10,15 @@ ghost use Rattle.kr_calls.specs.TakingOutLaws.{TakingOutIsNeverRefused, FencingI
 #[tactic(auto, using(crate::proofs::DecisionMeanings::standing))]
 pub fn records_have_meanings()
     ensures { RecordsHaveMeanings }
+{}
+
+/// What fits one batch is written as it is. Where the records of a decision have a meaning, so has each item that is written of it,
+/// and no transaction stays open behind the last; so it is of each write.
+#[tactic(auto, using(crate::proofs::PackedItems::fitting_stay, crate::proofs::PackedItems::packed_stand, crate::proofs::PackedItems::writes_stand))]
+pub fn packed_items_stand()
+    ensures fitting { FittingRecordsStay }
+    ensures packed { PackedItemsStand }
+    ensures writes { WritesStand }
 {}
 
 /// Taking a broker out of the partitions of a valid image is never refused, and changes the partitions alone. Nor is a

@@ -17,6 +17,7 @@ use Rattle.kr_calls.specs.Decide.{work_of}
 use Rattle.kr_calls.specs.Deciding.{done, taken}
 use Rattle.kr_calls.specs.IncrementalAlterConfigs as incremental_alter_configs
 use Rattle.kr_calls.specs.NextBasis.{heartbeats_after}
+use Rattle.kr_calls.specs.Packed.{packed, place_taken}
 use Rattle.kr_calls.specs.Refuse as refusals
 use Rattle.kr_defs.specs.declared.basis.Basis.{Basis}
 use Rattle.kr_defs.specs.declared.basis.Contact.{Contact}
@@ -110,16 +111,16 @@ commit_to end = events.Commit (pos 1) (pos end)
 pub commits :
     outputs_from led [] (asked (pos 1) ∷ commit_to 12 ∷ commit_to 15 ∷ [])
     ≡ (given.Append (batch_bytes settings_batch) ∷ []) ∷ [] ∷ (replied (pos 1) (pos 0) ∷ []) ∷ []
-unfolding work_of incremental_alter_configs.decided done taken apply_record apply image_at state_at apply_at open_at value_bytes heartbeats_after refusals.refuse
+unfolding work_of incremental_alter_configs.decided done taken apply_record apply image_at state_at apply_at open_at value_bytes heartbeats_after refusals.refuse packed place_taken
 commits = refl
 
 -- a commit ends with a batch, and not above the tip
 pub commit_above : outcome options (after led (asked (pos 1) ∷ [])) (commit_to 16) ≡ Err (bad_commit (pos 16) (pos 12) (pos 15))
-unfolding work_of incremental_alter_configs.decided done taken apply_record apply image_at state_at apply_at open_at value_bytes
+unfolding work_of incremental_alter_configs.decided done taken apply_record apply image_at state_at apply_at open_at value_bytes packed place_taken
 commit_above = refl
 
 pub commit_between : outcome options (after led (asked (pos 1) ∷ [])) (commit_to 14) ≡ Err (bad_commit (pos 14) (pos 12) (pos 15))
-unfolding work_of incremental_alter_configs.decided done taken apply_record apply image_at state_at apply_at open_at value_bytes
+unfolding work_of incremental_alter_configs.decided done taken apply_record apply image_at state_at apply_at open_at value_bytes packed place_taken
 commit_between = refl
 
 pub commit_of_another : outcome options led (events.Commit (pos 2) (pos 12)) ≡ Err (not_leading (pos 2) (Some (pos 1)))
@@ -129,7 +130,7 @@ commit_of_another = refl
 pub without_records :
     outputs_from led [] (asked (pos 1) ∷ asked (pos 2) ∷ commit_to 15 ∷ asked (pos 3) ∷ [])
     ≡ (given.Append (batch_bytes settings_batch) ∷ []) ∷ [] ∷ (replied (pos 1) (pos 0) ∷ replied (pos 2) (pos 0) ∷ []) ∷ (replied (pos 3) (pos 0) ∷ []) ∷ []
-unfolding work_of incremental_alter_configs.decided done taken apply_record apply image_at state_at apply_at open_at value_bytes heartbeats_after refusals.refuse
+unfolding work_of incremental_alter_configs.decided done taken apply_record apply image_at state_at apply_at open_at value_bytes heartbeats_after refusals.refuse packed place_taken
 without_records = refl
 
 -- ---- leaderships
@@ -144,12 +145,12 @@ standby = after led (lost_lead ∷ [])
 pub leadership_lost :
     outputs_from led [] (asked (pos 1) ∷ asked (pos 2) ∷ lost_lead ∷ [])
     ≡ (given.Append (batch_bytes settings_batch) ∷ []) ∷ [] ∷ (replied (pos 1) NOT_CONTROLLER ∷ replied (pos 2) NOT_CONTROLLER ∷ []) ∷ []
-unfolding work_of incremental_alter_configs.decided done taken apply_record apply image_at state_at apply_at open_at value_bytes heartbeats_after refusals.refuse
+unfolding work_of incremental_alter_configs.decided done taken apply_record apply image_at state_at apply_at open_at value_bytes heartbeats_after refusals.refuse packed place_taken
 leadership_lost = refl
 
 -- and what wasn't committed is gone
 pub nothing_left : image_of_tip (after led (asked (pos 1) ∷ lost_lead ∷ [])) ≡ empty
-unfolding work_of incremental_alter_configs.decided done taken apply_record apply image_at state_at apply_at open_at value_bytes
+unfolding work_of incremental_alter_configs.decided done taken apply_record apply image_at state_at apply_at open_at value_bytes packed place_taken
 nothing_left = refl
 
 pub on_standby : outputs_of options start [] (asked (pos 7)) ≡ replied (pos 7) NOT_CONTROLLER ∷ []
@@ -184,7 +185,7 @@ own_batch = refl
 
 -- the batch comes back: it is committed, and nobody is answered
 pub comes_back : (bytes : List ℕ) → batch_of bytes ≡ Ok settings_batch → outputs_of options (after led (asked (pos 1) ∷ lost_lead ∷ [])) [] (events.Batch bytes) ≡ []
-unfolding work_of incremental_alter_configs.decided done taken apply_record apply image_at state_at apply_at open_at value_bytes
+unfolding work_of incremental_alter_configs.decided done taken apply_record apply image_at state_at apply_at open_at value_bytes packed place_taken
 comes_back bytes is = ap (λ r. outputs_by options (after led (asked (pos 1) ∷ lost_lead ∷ [])) [] (events.Batch bytes) (and_then (batch_or r) (take_batch (after led (asked (pos 1) ∷ lost_lead ∷ []))))) is
 
 pub ends_behind : tip_of (after_batch standby settings_batch) ≡ 15
@@ -255,7 +256,7 @@ taken_back = refl
 pub answered_behind :
     outputs_from half_open [] (leads_behind ∷ asked (pos 1) ∷ commits_to 3 ∷ commits_to 6 ∷ [])
     ≡ (given.Append (batch_bytes abort_batch) ∷ []) ∷ (given.Append (batch_bytes (record settings_batch { base = pos 3; epoch = pos 2 })) ∷ []) ∷ [] ∷ (replied (pos 1) (pos 0) ∷ []) ∷ []
-unfolding work_of incremental_alter_configs.decided done taken apply_record apply image_at state_at apply_at open_at value_bytes heartbeats_after refusals.refuse
+unfolding work_of incremental_alter_configs.decided done taken apply_record apply image_at state_at apply_at open_at value_bytes heartbeats_after refusals.refuse packed place_taken
 answered_behind = refl
 
 -- behind an item of the quorum's own: the commit of that item closes nothing, that of the abort does

@@ -4,17 +4,15 @@ use Rattle.std.specs.Prelude.{None, Option, Result, Some, Ok, Err, unwrap_or}
 use Rattle.std.specs.Option.{option_map, option_map_or}
 use Rattle.std.specs.Result.{result_unwrap_or}
 use Rattle.std.proofs.lemmas.List.{take-append-le, take-take, take_all, length-append, length-take}
-use Rattle.kr_calls.specs.Deciding.{apply_records}
+pub use Rattle.kr_calls.proofs.PackedItems.{as_records}
 use Rattle.kr_defs.specs.declared.record.Item.{Item}
 use Rattle.kr_defs.specs.declared.ill.Ill.{Ill}
-use Rattle.kr_defs.specs.Apply.{apply, apply_record}
+use Rattle.kr_defs.specs.Apply.{apply}
 use Rattle.kr_defs.specs.Guard.{and_then}
 use Rattle.kr_defs.specs.Image.{Image, empty}
 use Rattle.kr_defs.specs.Log.{Log, closed_end_at, tip, apply_all, image_at, state_image, open_at, state_at}
 use Rattle.kr_defs.specs.LogStates.{LogState, Opened, apply_all_at, apply_at, closed, first_ill_at, ill_at_or, open_behind_all}
 use Rattle.kr_defs.proofs.StateLogs.{apply_append as states_append, closed_end_told, ok_is, open_append, open_stands, open_told, plain_all, state_at_tip}
-use Rattle.kr_defs.specs.declared.record.Record.{Record}
-use Rattle.kr_defs.specs.ImageLaws.{as_items}
 use Rattle.kr_model.specs.Lost.{cut}
 use Rattle.kr_model.specs.World.{log_with}
 
@@ -129,17 +127,6 @@ cut_tip log place started below = let long = length-take (place - log.offset) lo
 pub cut_below : (log : Log) (end place : ℕ) → place ≤ end → image_at (cut log end) place ≡ image_at log place
 unfolding image_at
 cut_below log end place below = ap state_image (state_cut_below log end place below)
-
--- ---- records as items
-
-pub as_records : (image : Image) (records : List Record) → apply_all image (as_items records) ≡ apply_records image records
-unfolding apply
-as_records image [] = refl
-as_records image (r ∷ records) =
-    elim (apply_record image r) as (λ (q : Result Image Ill). and_then q (λ after. apply_all after (as_items records)) ≡ and_then q (λ after. apply_records after records)) [
-      | Ok after ↦ as_records after records
-      | Err cause ↦ refl
-    ]
 
 -- ---- items that all have a meaning
 

@@ -15,6 +15,7 @@ use Rattle.kr_calls.specs.declared.events.Reason.{Reason}
 use Rattle.kr_calls.specs.declared.calls.Ask.TheVariants as asks
 use Rattle.kr_calls.specs.declared.events.Event.TheVariants as events
 use Rattle.kr_calls.specs.Decide.{is_read}
+use Rattle.kr_calls.specs.Packed.{batches_of}
 use Rattle.kr_defs.specs.declared.ill.Ill.{Ill}
 use Rattle.kr_defs.specs.declared.options.Options.{Options}
 use Rattle.kr_defs.specs.declared.record.Item.{Item}
@@ -33,14 +34,14 @@ use Rattle.kr_model.specs.Engine.{Rise}
 use Rattle.kr_model.specs.Events.{with_next_number, happens, time_after, outcome, state, at_time_of}
 use Rattle.kr_model.specs.Lead.{after_lead, giving_up, in_lead, lead, may_begin_at, taking_over, up_to}
 use Rattle.kr_model.specs.Lost.{after_lost, lost}
-use Rattle.kr_model.specs.World.{closed_of, leads_in, State, World, image_of_tip, is_far, start, state_of_tip, tip_of, with_batch, log_with}
+use Rattle.kr_model.specs.World.{closed_of, leads_in, State, World, is_far, start, state_of_tip, tip_of, with_batch, with_batches, log_with}
 use Rattle.kr_model.specs.Outputs.{new_writes, waiting_writes, waiting_after, writes_from}
 use Rattle.kr_model.specs.Reasons as reasons
 use Rattle.kr_model.specs.Batch.{batch_or, end_of, batch, take_batch, after_batch, unless_ill}
 use Rattle.kr_model.specs.Load.{image_or, load, take_image, after_load}
-use Rattle.kr_model.specs.Request.{after_ask, after_write, decision, is_decided, request}
-use Rattle.kr_model.specs.Tick.{fence, fence_all, fencing_of, lapsed_contacts, tick}
-use Rattle.kr_model.proofs.DueWrites.{Goes, batch_leaves, event_goes, lead_leading}
+use Rattle.kr_model.specs.Request.{after_ask, after_write, is_decided, request, write_items}
+use Rattle.kr_model.specs.Tick.{fence, fence_all, fencing_items, lapsed_contacts, tick}
+use Rattle.kr_model.proofs.DueWrites.{Goes, batches_leave, event_goes, lead_leading}
 use Rattle.kr_model.proofs.CoveredEnds.{AreCovered, covered_above, passed_up_to, up_to_both, up_to_later}
 use Rattle.kr_model.proofs.Logs.{cut_tip, open_cut_below, open_written_below, tip_written}
 use Rattle.kr_model.proofs.LongerLogs.{rise_more}
@@ -106,15 +107,19 @@ module _ (w : World) (r : Rises w) where
   rises_up_to next true = r
   rises_up_to next false = rises_with_batch (items.Control ∷ [])
 
+rises_with_batches : (batches : List (List Item)) (w : World) → Rises w → Rises (with_batches w batches)
+rises_with_batches [] w r = r
+rises_with_batches (batch ∷ batches) w r = rises_with_batches batches (with_batch w batch) (rises_with_batch w r batch)
+
 rises_fenced : (options : Options) (s : State) (brokers : List ℤ) → Rises s.world → Rises (fence_all options s brokers).world
 rises_fenced options s [] r = r
 rises_fenced options s (broker ∷ brokers) r =
-    rises_fenced options (fence options s broker) brokers (rises_with_batch s.world r (as_items (fencing_of options (image_of_tip s) broker)))
+    rises_fenced options (fence options s broker) brokers (rises_with_batches (batches_of (fencing_items options s broker)) s.world r)
 
 leading_fenced : (options : Options) (s : State) (brokers : List ℤ) → (fence_all options s brokers).world.leading ≡ s.world.leading
 leading_fenced options s [] = refl
 leading_fenced options s (broker ∷ brokers) =
-    leading_fenced options (fence options s broker) brokers ∙ (batch_leaves s.world (as_items (fencing_of options (image_of_tip s) broker))).leading
+    leading_fenced options (fence options s broker) brokers ∙ (batches_leave (batches_of (fencing_items options s broker)) s.world).leading
 
 time_fenced : (options : Options) (s : State) (brokers : List ℤ) → (fence_all options s brokers).basis.time ≡ s.basis.time
 time_fenced options s [] = refl
@@ -230,10 +235,10 @@ module _ (options : Options) (s : State) (k : IsOrderly s) where
   writes_so : (request : Request) (b : Bool) → (b ≡ true → is_some s.world.leading ≡ true) → IsOrderly (cond b (after_write options s request) s)
   writes_so request false decision = k
   writes_so request true led =
-      let items = as_items (decision options s request).records in record {
-        rises = rises_with_batch s.world k.rises items;
+      let batches = batches_of (write_items options s request) in record {
+        rises = rises_with_batches batches s.world k.rises;
         natural = k.natural;
-        at_standby = λ none. absurd (leads s.world.leading (sym (batch_leaves s.world items).leading ∙ none) (led refl));
+        at_standby = λ none. absurd (leads s.world.leading (sym (batches_leave batches s.world).leading ∙ none) (led refl));
       }
 
   asks_on : (ask : Ask) → IsOrderly (after_ask options s ask)

@@ -1,6 +1,6 @@
 -- What a contract sees of an engine, and for which past events it stands.
-use Rattle.std.specs.Prelude.{◌≡◌, ◌≤◌, ◌<◌, ℕ, ℤ, pos, int_le, unsigned_abs, List, [], ◌∷◌, ◌++◌, All, map, filter, option_to_list, Bool, true, ◌&&◌, IsTrue, IsSome, IfSome, Option, None, Ok}
-use Rattle.std.specs.List.{AllByRecursion, list_all}
+use Rattle.std.specs.Prelude.{◌≡◌, ◌≤◌, ◌<◌, ℕ, ℤ, pos, int_le, unsigned_abs, List, [], ◌∷◌, ◌++◌, All, map, filter, option_to_list, Bool, true, ◌&&◌, ◌||◌, ◌==◌, nat_lt, IsTrue, IsSome, IfSome, Option, None, Ok}
+use Rattle.std.specs.List.{AllByRecursion, list_all, list_any}
 use Rattle.std.specs.Option.{option_map}
 use Rattle.std.specs.Ordering.{int_eq}
 use Rattle.kr_calls.specs.declared.events.Entry.{Entry}
@@ -70,6 +70,9 @@ writes_in_order [] = true
 writes_in_order (write ∷ writes) =
     list_all (λ later. int_eq write.epoch later.epoch && int_le write.need later.need) writes && writes_in_order writes
 
+abbrev pub may_begin : World → ℕ → Bool
+may_begin w begin = nat_lt begin w.committed || list_any (λ n. n == begin) (w.committed ∷ w.batch_ends)
+
 pub record IsState (s : State) (writes : List Write) : Type 0 where
   -- the image that the log starts from
   pub valid : IsValid s.world.log.image
@@ -78,8 +81,8 @@ pub record IsState (s : State) (writes : List Write) : Type 0 where
   pub settled : Rise (closed_of s.world) s.world.covered s.world.committed
   -- the last batch ends at the tip
   pub ends : Rise s.world.committed s.world.batch_ends (tip_of s)
-  -- what is open at the end of a batch was open at the committed end
-  pub begun : AllByRecursion (λ (n : ℕ). IfSome (open_at s.world.log n) (λ begin. begin < s.world.committed)) s.world.batch_ends
+  -- what is open at the end of a batch began below the committed end, at it, or at the end of a batch
+  pub begun : AllByRecursion (λ (n : ℕ). IfSome (open_at s.world.log n) (λ begin. IsTrue (may_begin s.world begin))) s.world.batch_ends
   pub low : tip_of s ≤ unsigned_abs PLACES_END
   pub at_standby : s.world.leading ≡ None → (s.world.batch_ends ≡ []) × (hearing.heard s.basis ≡ hearing.end)
   -- a leader has given up what was open

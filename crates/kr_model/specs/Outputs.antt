@@ -19,44 +19,49 @@ use Rattle.kr_calls.specs.declared.calls.Reply.TheVariants as replies
 use Rattle.kr_calls.specs.declared.events.Event.TheVariants as events
 use Rattle.kr_calls.specs.declared.events.Output.TheVariants as given
 use Rattle.kr_calls.specs.Decide.{is_read, query}
+use Rattle.kr_calls.specs.Packed.{batches_of}
 use Rattle.kr_calls.specs.Refuse.{refuse}
 use Rattle.kr_defs.specs.declared.options.Options.{Options}
-use Rattle.kr_defs.specs.declared.record.Record.{Record}
+use Rattle.kr_defs.specs.declared.record.Item.{Item}
 use Rattle.kr_defs.specs.ImageLaws.{as_items}
 use Rattle.kr_snapshot.specs.ImageText.{image_text}
 use Rattle.kr_model.specs.declared.writes.Ended.{Ended}
 use Rattle.kr_model.specs.declared.writes.Told.{Told}
 use Rattle.kr_model.specs.declared.writes.Write.{Write}
 use Rattle.kr_model.specs.Events.{happens, next_number, outcome, state, at_time_of}
-use Rattle.kr_model.specs.World.{closed_of, leads_in, State, World, image_of_closed, image_of_tip, start, tip_of}
+use Rattle.kr_model.specs.World.{closed_of, leads_in, State, World, image_of_closed, start, tip_of, with_batch}
 use Rattle.kr_model.specs.Reasons.{led_epoch}
 use Rattle.kr_model.specs.Lead.{giving_up, taking_over}
-use Rattle.kr_model.specs.Request.{after_ask, decision, is_decided}
-use Rattle.kr_model.specs.Tick.{fence, fencing_of, lapsed_contacts}
+use Rattle.kr_model.specs.Request.{after_ask, decision, is_decided, write_items}
+use Rattle.kr_model.specs.Tick.{fence, fencing_items, lapsed_contacts}
 
 -- ---- batches
 
--- records as a batch at the tip, in the led epoch, at the greatest time
-abbrev pub next_batch : State → List Record → Batch
-next_batch s records =
-    record { base = pos (tip_of s); epoch = led_epoch s.world.leading; time = s.basis.time; items = as_items records }
+-- items as a batch at the tip, in the led epoch, at the greatest time
+abbrev pub next_batch : State → List Item → Batch
+next_batch s items = record { base = pos (tip_of s); epoch = led_epoch s.world.leading; time = s.basis.time; items = items }
 
-abbrev pub append : State → List Record → List Output
-append s records = if length records == 0 then [] else given.Append (batch_bytes (next_batch s records)) ∷ []
+abbrev pub append : State → List Item → List Output
+append s items = if length items == 0 then [] else given.Append (batch_bytes (next_batch s items)) ∷ []
 
--- one batch for each broker that is fenced
+-- each batch at the tip that those before it leave
+abbrev pub append_all : State → List (List Item) → List Output
+append_all s [] = []
+append_all s (batch ∷ batches) = append s batch ++ append_all (record s { world = with_batch s.world batch }) batches
+
+-- the batches of each broker that is fenced
 abbrev pub append_fencings : Options → State → List ℤ → List Output
 append_fencings options s [] = []
 append_fencings options s (broker ∷ brokers) =
-    append s (fencing_of options (image_of_tip s) broker) ++ append_fencings options (fence options s broker) brokers
+    append_all s (batches_of (fencing_items options s broker)) ++ append_fencings options (fence options s broker) brokers
 
 abbrev pub append_for : Options → State → Ask → List Output
-append_for options s (asks.Call call) = if is_decided s.world (asks.Call call) then append s (decision options s call.request).records else []
+append_for options s (asks.Call call) = if is_decided s.world (asks.Call call) then append_all s (batches_of (write_items options s call.request)) else []
 append_for options s (asks.Bare correlation fault) = []
 
 -- the batches of an accepted event
 abbrev pub appends : Options → State → Event → List Output
-appends options s (events.Lead epoch next now) = append (taking_over s epoch next) (giving_up (taking_over s epoch next).world)
+appends options s (events.Lead epoch next now) = append (taking_over s epoch next) (as_items (giving_up (taking_over s epoch next).world))
 appends options s (events.Tick now) = append_fencings options s (lapsed_contacts options s)
 appends options s (events.Request client now ask) = append_for options s ask
 appends options s other = []
@@ -89,7 +94,7 @@ answers_now options s other = []
 
 -- ---- writes, whose replies wait
 
--- a write needs all that it saw or made: the tip behind its records
+-- a write needs all that it saw or made: the tip behind its items
 abbrev pub write_of : Options → State → ℕ → Call → Write
 write_of options s client call = record {
   client = client;
@@ -98,7 +103,7 @@ write_of options s client call = record {
   need = pos (tip_of (after_ask options s (asks.Call call)));
   reply = (decision options s call.request).reply;
   refusal = refuse call.request NOT_CONTROLLER;
-  decided = record { place = pos (tip_of s); count = length (decision options s call.request).records; basis = s.basis };
+  decided = record { place = pos (tip_of s); count = length (write_items options s call.request); basis = s.basis };
 }
 
 -- the write of an accepted event

@@ -1,14 +1,16 @@
--- Request: a client's message; a leading controller decides a write on the image at the tip, whose records are one batch.
-use Rattle.std.specs.Prelude.{◌&&◌, pos, Bool, false, not, is_some, Result, Ok, if◌then◌else◌}
+-- Request: a client's message; a leading controller decides a write on the image at the tip, whose items are written in batches.
+use Rattle.std.specs.Prelude.{◌&&◌, pos, Bool, false, not, is_some, List, Result, Ok, if◌then◌else◌}
 use Rattle.kr_calls.specs.declared.calls.Ask.{Ask}
 use Rattle.kr_calls.specs.declared.calls.Request.{Request}
 use Rattle.kr_calls.specs.declared.events.Reason.{Reason}
 use Rattle.kr_calls.specs.declared.calls.Ask.TheVariants as asks
-use Rattle.kr_calls.specs.Decide.{Decision, decide, is_read}
+use Rattle.kr_calls.specs.Decide.{Decision, is_read}
+use Rattle.kr_calls.specs.Packed.{batches_of, decide_taken, items_of_write}
 use Rattle.kr_defs.specs.declared.options.Options.{Options}
+use Rattle.kr_defs.specs.declared.record.Item.{Item}
 use Rattle.kr_defs.specs.Guard.{refuse◌when◌else◌}
 use Rattle.kr_model.specs.Reasons.{exhausted}
-use Rattle.kr_model.specs.World.{World, State, with_heartbeats, image_of_tip, is_far, tip_of, with_records}
+use Rattle.kr_model.specs.World.{World, State, with_heartbeats, image_of_tip, is_far, tip_of, with_batches}
 
 -- a write, while this node leads
 abbrev pub is_decided : World → Ask → Bool
@@ -16,11 +18,15 @@ is_decided w (asks.Call call) = is_some w.leading && not (is_read call.request)
 is_decided w (asks.Bare correlation fault) = false
 
 abbrev pub decision : Options → State → Request → Decision
-decision options s request = decide options (image_of_tip s) s.basis (pos (tip_of s)) request
+decision options s request = decide_taken options (image_of_tip s) s.basis (pos (tip_of s)) request
+
+-- what is written of it, from the tip on
+abbrev pub write_items : Options → State → Request → List Item
+write_items options s request = items_of_write options (image_of_tip s) s.basis (pos (tip_of s)) request
 
 abbrev pub after_write : Options → State → Request → State
 after_write options s request = record {
-  world = with_records s.world (decision options s request).records;
+  world = with_batches s.world (batches_of (write_items options s request));
   basis = with_heartbeats s.basis (decision options s request).heartbeats;
 }
 

@@ -6,12 +6,12 @@ use Rattle.kr_calls.specs.declared.answers.AnswerKind.{AnswerKind}
 use Rattle.kr_calls.specs.declared.answers.AnswerKind.TheVariants as kinds
 use Rattle.kr_calls.specs.declared.calls.Call.{Call}
 use Rattle.kr_calls.specs.declared.events.Entry.{Entry}
-use Rattle.kr_calls.specs.RightAnswers.{HaveRecords, IsRightAs}
+use Rattle.kr_calls.specs.RightAnswers.{HaveItems, IsRightAs}
 use Rattle.kr_calls.specs.SeatList.{image_below}
 use Rattle.kr_defs.specs.declared.options.Options.{Options}
 use Rattle.kr_model.specs.declared.writes.Write.{Write}
 use Rattle.kr_model.specs.Outputs.{end_of_write, write_of}
-use Rattle.kr_model.specs.Request.{decision}
+use Rattle.kr_model.specs.Request.{write_items}
 use Rattle.kr_model.specs.World.{State, image_of_tip, tip_of}
 
 -- what is told of a write that ended is put into an answer to the call
@@ -22,10 +22,10 @@ pub record IsAnswerOf (call : Call) (end : ℤ) (write : Write) (a : Answered) :
   pub basis : a.basis ≡ write.decided.basis
   pub reply : a.reply ≡ (if int_lt end write.need then write.refusal else write.reply)
 
--- the list has the log of the state below its tip, and the records of the decision from there on
+-- the list has the log of the state below its tip, and what is written of the decision from there on
 pub record HasDecision (options : Options) (s : State) (call : Call) (list : List Entry) : Type 0 where
   pub image : image_below (pos (tip_of s)) list ≡ image_of_tip s
-  pub records : HaveRecords list (pos (tip_of s)) (decision options s call.request).records
+  pub items : HaveItems list (pos (tip_of s)) (write_items options s call.request)
 
 -- for a write that was lost nothing is asked of the list
 abbrev pub HasDecisionOf : AnswerKind → Options → State → Call → List Entry → Type 0

@@ -3,15 +3,17 @@ use Rattle.std.specs.Prelude.{◌&&◌, ◌-ℤ◌, ℤ, pos, List, [], fold, is
 use Rattle.std.specs.Option.{option_map_or}
 use Rattle.std.specs.Ordering.{int_cmp}
 use Rattle.kr_calls.specs.declared.events.Reason.{Reason}
+use Rattle.kr_calls.specs.Packed.{batches_of, packed}
 use Rattle.kr_calls.specs.TakingOut.{fencing}
 use Rattle.kr_defs.specs.declared.options.Options.{Options}
+use Rattle.kr_defs.specs.declared.record.Item.{Item}
 use Rattle.kr_defs.specs.declared.record.Record.{Record}
 use Rattle.kr_defs.specs.Guard.{refuse◌when◌else◌}
 use Rattle.kr_defs.specs.Heartbeats.{expired, heard, leave}
 use Rattle.kr_defs.specs.Image.{Image}
 use Rattle.kr_defs.specs.Map as entries
 use Rattle.kr_model.specs.Reasons.{exhausted}
-use Rattle.kr_model.specs.World.{State, with_heartbeats, image_of_tip, is_far, tip_of, with_records}
+use Rattle.kr_model.specs.World.{State, with_heartbeats, image_of_tip, is_far, tip_of, with_batches}
 
 -- the contacts whose session has ended, the one first that was heard of longest ago; on standby there are no contacts
 abbrev pub lapsed_contacts : Options → State → List ℤ
@@ -22,10 +24,14 @@ abbrev pub fencing_of : Options → Image → ℤ → List Record
 fencing_of options image broker =
     option_map_or (λ state. fencing options.minimum image broker state.epoch) (entries.get int_cmp image.brokers broker) []
 
--- the broker is fenced, by one batch at the tip
+-- what is written of it, from the tip on: its records are the same at each place
+abbrev pub fencing_items : Options → State → ℤ → List Item
+fencing_items options s broker = packed (λ place. fencing_of options (image_of_tip s) broker) (pos (tip_of s))
+
+-- the broker is fenced
 abbrev pub fence : Options → State → ℤ → State
 fence options s broker = record {
-  world = with_records s.world (fencing_of options (image_of_tip s) broker);
+  world = with_batches s.world (batches_of (fencing_items options s broker));
   basis = with_heartbeats s.basis (leave (heard s.basis) broker);
 }
 

@@ -1,6 +1,6 @@
 -- All that is kept of past events: the log and what of it is committed (Raft's commit index, KIP-595) and settled (KIP-868), and
 -- whom a leading controller hears of (KIP-631).
-use Rattle.std.specs.Prelude.{ℕ, ℤ, pos, negsuc, ◌+◌, ◌==◌, int_lt, List, [], ◌∷◌, ◌++◌, length, filter, nat_lt, Bool, Option, None, if◌then◌else◌, false}
+use Rattle.std.specs.Prelude.{ℕ, ℤ, pos, negsuc, ◌+◌, ◌==◌, int_lt, List, [], ◌∷◌, ◌++◌, length, filter, fold, nat_lt, Bool, Option, None, if◌then◌else◌, false}
 use Rattle.std.specs.Result.{result_unwrap_or}
 use Rattle.kr_defs.specs.declared.basis.Basis.{Basis}
 use Rattle.kr_defs.specs.declared.limits.TheConstants.{GREATEST_TIP}
@@ -89,6 +89,10 @@ abbrev pub with_batch : World → List Item → World
 with_batch w items =
     if length items == 0 then w else
     record w { log = log_with w.log items; batch_ends = w.batch_ends ++ (tip w.log + length items) ∷ [] }
+
+-- batches, one behind the other
+abbrev pub with_batches : World → List (List Item) → World
+with_batches w batches = fold with_batch w batches
 
 abbrev pub with_records : World → List Record → World
 with_records w records = with_batch w (as_items records)
