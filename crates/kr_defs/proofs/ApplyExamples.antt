@@ -156,7 +156,7 @@ unknown_topic : refused NoTopic (kinds.Partition (pos 9000) 10 partition)
 unfolding apply apply_record merged is_well_formed
 unknown_topic = refl
 
-great_index : refused BadNumber (kinds.Partition (pos 9000) 9 partition)
+great_index : refused BadNumber (kinds.Partition (pos 200000) 9 partition)
 unfolding apply apply_record merged is_well_formed
 great_index = refl
 
@@ -172,7 +172,7 @@ no_replicas : refused BadPartition (kinds.Partition (pos 1) 9 (record partition 
 unfolding apply apply_record merged is_well_formed
 no_replicas = refl
 
-added : gives (kinds.Partition (pos 8999) 9 partition) (record image { partitions = ((9, pos 0), partition) ∷ ((9, pos 8999), partition) ∷ [] })
+added : gives (kinds.Partition (pos 199999) 9 partition) (record image { partitions = ((9, pos 0), partition) ∷ ((9, pos 199999), partition) ∷ [] })
 unfolding apply apply_record merged is_well_formed
 added = refl
 

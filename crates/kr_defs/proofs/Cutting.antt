@@ -1,14 +1,16 @@
 -- What holds of items that are cut into batches.
-use Rattle.std.proofs.Common.{◌≡◌, ◌∙◌, ◌≤◌, ◌+◌, ℕ, List, [], ◌∷◌, ◌++◌, length, Bool, true, false, refl, sym, ap, subst, arith, All, length-append}
-use Rattle.std.specs.Prelude.{if◌then◌else◌}
+use Rattle.std.proofs.Common.{◌≡◌, ◌∙◌, ◌≤◌, ◌+◌, nat_le, ℕ, List, [], ◌∷◌, ◌++◌, length, Bool, true, false, refl, sym, ap, subst, arith, All, length-append}
+use Rattle.std.specs.Prelude.{if◌then◌else◌, sum_by}
 use Rattle.std.specs.List.{AllByRecursion}
 use Rattle.std.proofs.lemmas.List.Elements.{All-from_recursion, recursion_from_All}
-use Rattle.std.proofs.lemmas.List.Sums.{sum_by-append}
+use Rattle.std.proofs.lemmas.List.Sums.{sum_by-append, sum_by-cons}
 use Rattle.std.proofs.lemmas.List.{append_assoc, append-nil}
+use Rattle.std.proofs.lemmas.Bool.{leb-true}
 use Rattle.std.proofs.lemmas.Bool.Decides.{nat_tests}
-use Rattle.kr_defs.specs.declared.limits.TheConstants.{MOST_BATCH_BYTES}
+use Rattle.kr_defs.specs.declared.limits.TheConstants.{MOST_BATCH_BYTES, MOST_RECORDS}
 use Rattle.kr_defs.specs.Cut.{cut, cut_behind, is_one_batch}
 use Rattle.kr_defs.specs.CutLaws.{IsBatch, NoMore, AreFull, AreSmall, joined}
+use Rattle.kr_defs.proofs.Tests.{both}
 
 module _ {X : Type 0} (size : X → ℕ) where
   -- what is behind the test, in either case
@@ -111,3 +113,45 @@ module _ {X : Type 0} (size : X → ℕ) where
 
   pub alone : (batches : List (List X)) → All (IsBatch size) batches → AreFull size batches → cut size (joined batches) ≡ batches
   alone batches are are_full = alone_by_recursion batches (recursion_from_All (IsBatch size) batches are) are_full
+
+  -- ---- what holds of each batch where items may be larger than a batch
+
+  abbrev pub IsBounded : ℕ → List X → Type 0
+  IsBounded bound batch = (1 ≤ length batch) × (length batch ≤ MOST_RECORDS) × (sum_by size batch ≤ bound)
+
+  fitting_bounded : (bound : ℕ) (batch : List X) (x : X) → MOST_BATCH_BYTES ≤ bound → is_one_batch size (batch ++ x ∷ []) ≡ true → IsBounded bound (batch ++ x ∷ [])
+  fitting_bounded bound batch x most fitting =
+      let all : List X = batch ++ x ∷ [] in
+      let parts = both (nat_le (length all) MOST_RECORDS) (nat_le (sum_by size all) MOST_BATCH_BYTES) fitting in
+      let few = leb-true (length all) MOST_RECORDS parts.0 in
+      let little = leb-true (sum_by size all) MOST_BATCH_BYTES parts.1 in
+      (longer batch x, (few, omega (arith, little, most)))
+
+  alone_bounded : (bound : ℕ) (x : X) → size x ≤ bound → IsBounded bound (x ∷ [])
+  alone_bounded bound x small = let own = sum_by-cons size x [] in (omega arith, (omega arith, omega (arith, own, small)))
+
+  bounded_behind : (bound : ℕ) → MOST_BATCH_BYTES ≤ bound → (batch xs : List X) → IsBounded bound batch → AllByRecursion (λ x. size x ≤ bound) xs → AllByRecursion (IsBounded bound) (cut_behind size batch xs)
+  bounded_behind bound most batch [] is small = (is, tt)
+  bounded_behind bound most batch (x ∷ xs) is small = by_test batch x xs (AllByRecursion (IsBounded bound))
+      (λ fitting. bounded_behind bound most (batch ++ x ∷ []) xs (fitting_bounded bound batch x most fitting) small.1)
+      (λ over. (is, bounded_behind bound most (x ∷ []) xs (alone_bounded bound x small.0) small.1))
+
+  pub bounded : (bound : ℕ) → MOST_BATCH_BYTES ≤ bound → (items : List X) → AllByRecursion (λ x. size x ≤ bound) items → AllByRecursion (IsBounded bound) (cut size items)
+  bounded bound most [] small = tt
+  bounded bound most (x ∷ xs) small = bounded_behind bound most (x ∷ []) xs (alone_bounded bound x small.0) small.1
+
+  -- what holds of each item
+  module _ (P : X → Type 0) where
+    one_more : (batch : List X) (x : X) → AllByRecursion P batch → P x → AllByRecursion P (batch ++ x ∷ [])
+    one_more [] x all also = (also, tt)
+    one_more (y ∷ batch) x all also = (all.0, one_more batch x all.1 also)
+
+    each_behind : (batch xs : List X) → AllByRecursion P batch → AllByRecursion P xs → AllByRecursion (AllByRecursion P) (cut_behind size batch xs)
+    each_behind batch [] all rest = (all, tt)
+    each_behind batch (x ∷ xs) all rest = by_test batch x xs (AllByRecursion (AllByRecursion P))
+        (λ _. each_behind (batch ++ x ∷ []) xs (one_more batch x all rest.0) rest.1)
+        (λ _. (all, each_behind (x ∷ []) xs (rest.0, tt) rest.1))
+
+    pub each : (items : List X) → AllByRecursion P items → AllByRecursion (AllByRecursion P) (cut size items)
+    each [] all = tt
+    each (x ∷ xs) all = each_behind (x ∷ []) xs (all.0, tt) all.1

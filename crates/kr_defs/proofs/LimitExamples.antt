@@ -1,14 +1,19 @@
 -- Each limit by computation: what it lets through, and what is one more.
-use Rattle.std.proofs.Common.{◌≡◌, refl, true, false, List, [], ◌∷◌, ℕ, ℤ, pos, negsuc, ◌^◌, map, replicate, Some, None, Err, is_ok, nat_lt}
-use Rattle.std.specs.Prelude.{codes}
+use Rattle.std.proofs.Common.{◌≡◌, ◌∙◌, refl, ap, arith, Bool, true, false, cond, List, [], ◌∷◌, length, ℕ, zero, suc, ◌≤◌, ◌<◌, ℤ, pos, negsuc, ◌^◌, map, replicate, Some, None, Err, is_ok, nat_le, nat_lt}
+use Rattle.std.proofs.lemmas.Bool.Decides.{nat_tests}
+use Rattle.std.proofs.lemmas.List.{length-replicate}
+use Rattle.std.specs.Prelude.{codes, ◌||◌, ◌==◌, Result, Ok}
 use Rattle.std.specs.List.{range_with_len}
 use Rattle.kr_defs.specs.declared.broker.Broker.{Broker}
-use Rattle.kr_defs.specs.declared.ill.Ill.TheVariants.{Limit}
-use Rattle.kr_defs.specs.declared.limits.TheConstants.{MOST_CONFIG_TEXT, MOST_BATCH_BYTES, MOST_RECORDS, MOST_REQUEST_RECORDS, MOST_REQUEST_BYTES, IMAGE_BATCH, GREATEST_TIP, PLACES_END, MOST_MESSAGE_BYTES, MOST_FRAME_BYTES, MOST_LOAD_BYTES, MOST_SESSION_BYTES}
+use Rattle.kr_defs.specs.declared.ill.Ill.{Ill}
+use Rattle.kr_defs.specs.declared.ill.Ill.TheVariants.{Limit, PartitionExists, TopicExists}
+use Rattle.kr_defs.specs.declared.limits.TheConstants.{MOST_CONFIG_TEXT, MOST_BATCH_BYTES, MOST_RECORDS, MOST_REQUEST_RECORDS, MOST_REQUEST_BYTES, IMAGE_BATCH, GREATEST_TIP, PLACES_END, MOST_MESSAGE_BYTES, MOST_FRAME_BYTES, MOST_LOAD_BYTES, MOST_PARTITIONS, MOST_SESSION_BYTES, MOST_TOPICS}
 use Rattle.kr_defs.specs.declared.options.Options.{Options}
 use Rattle.kr_defs.specs.declared.partition.Partition.{Partition}
 use Rattle.kr_defs.specs.Apply.{register_broker, add_topic, add_partition, set_feature_level}
-use Rattle.kr_defs.specs.Image.{Image, empty, is_index, is_small_registration}
+use Rattle.kr_defs.specs.Image.{Image, empty, has_topic, is_index, is_small_registration}
+use Rattle.kr_defs.specs.Map as maps
+use Rattle.kr_defs.specs.Map.{partition_order, text_order}
 use Rattle.kr_defs.specs.Merge.{next_epoch}
 use Rattle.kr_defs.specs.OpenOptions.{are_options}
 use Rattle.kr_defs.specs.Partition.{are_replicas, are_targets, is_well_formed}
@@ -23,6 +28,12 @@ letters n = replicate n 97
 abbrev ids : ℕ → List ℤ
 ids n = map (λ k. pos k) (range_with_len 0 n)
 
+not_yet : (most n : ℕ) → n < most → nat_le most n ≡ false
+not_yet most n few = grind (arith, nat_tests)
+
+reached : (most n : ℕ) → most ≤ n → nat_le most n ≡ true
+reached most n many = grind (arith, nat_tests)
+
 -- ---- brokers
 
 abbrev plain : Broker
@@ -31,14 +42,14 @@ plain = record { epoch = pos 0; incarnation = 1; endpoints = []; features = []; 
 abbrev with_brokers : ℕ → Image
 with_brokers n = record empty { brokers = replicate n (pos 7, plain) }
 
-brokers_1000 : is_ok (register_broker (with_brokers 999) (pos 3) plain) ≡ true
-brokers_1000 = refl
+brokers_5000 : is_ok (register_broker (with_brokers 4999) (pos 3) plain) ≡ true
+brokers_5000 = refl
 
-brokers_1001 : register_broker (with_brokers 1000) (pos 3) plain ≡ Err Limit
-brokers_1001 = refl
+brokers_5001 : register_broker (with_brokers 5000) (pos 3) plain ≡ Err Limit
+brokers_5001 = refl
 
 -- one that is registered again is none more
-registered_again : is_ok (register_broker (with_brokers 1000) (pos 7) plain) ≡ true
+registered_again : is_ok (register_broker (with_brokers 5000) (pos 7) plain) ≡ true
 registered_again = refl
 
 abbrev listens : ℕ → Broker
@@ -74,11 +85,29 @@ text_4097 = refl
 abbrev with_topics : ℕ → Image
 with_topics n = record empty { topics = replicate n (codes "b", 5) }
 
-topics_9000 : is_ok (add_topic (with_topics 8999) (codes "a") 6) ≡ true
-topics_9000 = refl
+-- so many lists are too long to be computed: what is one more is told by their lengths
+no_such_name : (n : ℕ) → maps.contains text_order (with_topics n).topics (codes "a") ≡ false
+no_such_name zero = refl
+no_such_name (suc n) = no_such_name n
 
-topics_9001 : add_topic (with_topics 9000) (codes "a") 6 ≡ Err Limit
-topics_9001 = refl
+no_such_id : (n : ℕ) → has_topic (with_topics n).topics 6 ≡ false
+no_such_id zero = refl
+no_such_id (suc n) = no_such_id n
+
+abbrev one_topic_more : ℕ → Bool → Result Image Ill
+one_topic_more n full = cond full (Err Limit) (Ok (record (with_topics n) { topics = maps.insert text_order (with_topics n).topics (codes "a") 6 }))
+
+topics_by : (n : ℕ) → add_topic (with_topics n) (codes "a") 6 ≡ one_topic_more n (nat_le MOST_TOPICS n)
+topics_by n =
+    ap (λ b. cond (b || has_topic (with_topics n).topics 6 || 6 == 0) (Err TopicExists) (one_topic_more n (nat_le MOST_TOPICS (length (with_topics n).topics)))) (no_such_name n)
+    ∙ (ap (λ b. cond (b || 6 == 0) (Err TopicExists) (one_topic_more n (nat_le MOST_TOPICS (length (with_topics n).topics)))) (no_such_id n)
+    ∙ ap (λ m. one_topic_more n (nat_le MOST_TOPICS m)) (length-replicate n (codes "b", 5)))
+
+topics_200000 : (n : ℕ) → n ≤ 199999 → is_ok (add_topic (with_topics n) (codes "a") 6) ≡ true
+topics_200000 n few = ap is_ok (topics_by n) ∙ ap (λ b. is_ok (one_topic_more n b)) (not_yet 200000 n (omega (arith, few)))
+
+topics_200001 : (n : ℕ) → 200000 ≤ n → add_topic (with_topics n) (codes "a") 6 ≡ Err Limit
+topics_200001 n many = topics_by n ∙ ap (one_topic_more n) (reached 200000 n many)
 
 topic_name_249 : is_topic_name (letters 249) ≡ true
 topic_name_249 = refl
@@ -105,19 +134,31 @@ alone = record {
 abbrev with_partitions : ℕ → Image
 with_partitions n = record (with_topics 1) { partitions = replicate n ((7, pos 0), alone) }
 
-partitions_9000 : is_ok (add_partition (with_partitions 8999) (pos 1) 5 alone) ≡ true
+no_such_partition : (n : ℕ) → maps.contains partition_order (with_partitions n).partitions (5, pos 1) ≡ false
+no_such_partition zero = refl
+no_such_partition (suc n) = no_such_partition n
+
+abbrev one_partition_more : ℕ → Bool → Result Image Ill
+one_partition_more n full =
+    cond full (Err Limit) (Ok (record (with_partitions n) { partitions = maps.insert partition_order (with_partitions n).partitions (5, pos 1) alone }))
+
+partitions_by : (n : ℕ) → add_partition (with_partitions n) (pos 1) 5 alone ≡ one_partition_more n (nat_le MOST_PARTITIONS n)
 unfolding is_well_formed
-partitions_9000 = refl
+partitions_by n =
+    ap (λ b. cond b (Err PartitionExists) (one_partition_more n (nat_le MOST_PARTITIONS (length (with_partitions n).partitions)))) (no_such_partition n)
+    ∙ ap (λ m. one_partition_more n (nat_le MOST_PARTITIONS m)) (length-replicate n ((7, pos 0), alone))
 
-partitions_9001 : add_partition (with_partitions 9000) (pos 1) 5 alone ≡ Err Limit
-unfolding is_well_formed
-partitions_9001 = refl
+partitions_200000 : (n : ℕ) → n ≤ 199999 → is_ok (add_partition (with_partitions n) (pos 1) 5 alone) ≡ true
+partitions_200000 n few = ap is_ok (partitions_by n) ∙ ap (λ b. is_ok (one_partition_more n b)) (not_yet 200000 n (omega (arith, few)))
 
-index_8999 : is_index (pos 8999) ≡ true
-index_8999 = refl
+partitions_200001 : (n : ℕ) → 200000 ≤ n → add_partition (with_partitions n) (pos 1) 5 alone ≡ Err Limit
+partitions_200001 n many = partitions_by n ∙ ap (one_partition_more n) (reached 200000 n many)
 
-index_9000 : is_index (pos 9000) ≡ false
-index_9000 = refl
+index_199999 : is_index (pos 199999) ≡ true
+index_199999 = refl
+
+index_200000 : is_index (pos 200000) ≡ false
+index_200000 = refl
 
 index_below_0 : is_index (negsuc 0) ≡ false
 index_below_0 = refl
@@ -244,10 +285,10 @@ batch_records = refl
 batch_bytes : MOST_BATCH_BYTES ≡ 8000000
 batch_bytes = refl
 
-request_records : MOST_REQUEST_RECORDS ≡ 10000
+request_records : MOST_REQUEST_RECORDS ≡ 400000
 request_records = refl
 
-request_bytes : MOST_REQUEST_BYTES ≡ 8000000
+request_bytes : MOST_REQUEST_BYTES ≡ 400000000
 request_bytes = refl
 
 image_batch : IMAGE_BATCH ≡ 1000
@@ -265,7 +306,7 @@ message_bytes = refl
 frame_bytes : MOST_FRAME_BYTES ≡ 16777216
 frame_bytes = refl
 
-load_bytes : MOST_LOAD_BYTES ≡ 67108864
+load_bytes : MOST_LOAD_BYTES ≡ 1073741824
 load_bytes = refl
 
 session_bytes : MOST_SESSION_BYTES ≡ 2 ^ 40

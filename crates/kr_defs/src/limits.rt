@@ -1,16 +1,16 @@
 //! How much there may be: each limit once, for the definitions and the code.
 
 /// Brokers that are registered.
-pub const MOST_BROKERS: usize = 1000;
+pub const MOST_BROKERS: usize = 5000;
 
 /// Topics.
-pub const MOST_TOPICS: usize = 9000;
+pub const MOST_TOPICS: usize = 200000;
 
 /// Partitions of all topics.
-pub const MOST_PARTITIONS: usize = 9000;
+pub const MOST_PARTITIONS: usize = 200000;
 
 /// The greatest index of a partition.
-pub const LAST_INDEX: i32 = 8999;
+pub const LAST_INDEX: i32 = 199999;
 
 /// Partitions of a topic where a request leaves their number open, in the options of a controller.
 pub const MOST_DEFAULT_PARTITIONS: i32 = 9000;
@@ -67,10 +67,10 @@ pub const MOST_RECORDS: usize = 10000;
 pub const MOST_BATCH_BYTES: usize = 8000000;
 
 /// Records that one request gives.
-pub const MOST_REQUEST_RECORDS: usize = 10000;
+pub const MOST_REQUEST_RECORDS: usize = 400000;
 
 /// Bytes in the values of the records that one request gives.
-pub const MOST_REQUEST_BYTES: usize = 8000000;
+pub const MOST_REQUEST_BYTES: usize = 400000000;
 
 /// Above this tip of the log nothing is led, decided or loaded.
 pub const GREATEST_TIP: i64 = 2305843009213693952;
@@ -88,7 +88,7 @@ pub const MOST_MESSAGE_BYTES: usize = 8388608;
 pub const MOST_FRAME_BYTES: usize = 16777216;
 
 /// The same for a frame that loads an image.
-pub const MOST_LOAD_BYTES: usize = 67108864;
+pub const MOST_LOAD_BYTES: usize = 1073741824;
 
 /// Bytes of one session or connection.
 pub const MOST_SESSION_BYTES: u64 = 1099511627776;

@@ -25,8 +25,9 @@ abort_size : length (item_value (items.Record an_abort)) ≡ 4
 unfolding value_bytes
 abort_size = size an_abort abort_written
 
-pub abort_fits : FitsBatch (kinds.AbortTransaction None ∷ [])
+pub abort_fits : FitsBatch (as_items (an_abort ∷ []))
 abort_fits = record {
+  some = lit≤ tt;
   few = lit≤ tt;
   each = All-from_recursion IsWritable (as_items (an_abort ∷ [])) (abort_written, tt);
   small =

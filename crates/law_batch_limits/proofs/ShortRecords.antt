@@ -27,7 +27,7 @@ use Rattle.kr_record.specs.Encodable.{FitsField, IsEncodable, IsShort, IsShortEn
 
 -- the most bytes of a request
 abbrev pub IsFew : ℕ → Type 0
-IsFew n = n ≤ 8000000
+IsFew n = n ≤ 400000000
 
 -- ---- parts of sums
 

@@ -14,7 +14,9 @@ use Rattle.kr_calls.specs.declared.calls.Ask.TheVariants as asks
 use Rattle.kr_calls.specs.declared.events.Event.TheVariants as events
 use Rattle.kr_calls.specs.declared.events.Entry.{Entry}
 use Rattle.kr_calls.specs.declared.events.Entry.TheVariants as entries
+use Rattle.kr_calls.specs.Packed.{batches_of}
 use Rattle.kr_calls.specs.SeatList.{item_entries}
+use Rattle.kr_defs.specs.CutLaws.{joined}
 use Rattle.kr_defs.specs.declared.ill.Ill.{Ill}
 use Rattle.kr_defs.specs.declared.limits.TheConstants.{PLACES_END}
 use Rattle.kr_defs.specs.declared.options.Options.{Options}
@@ -36,13 +38,13 @@ use Rattle.kr_model.specs.Lead.{after_lead, giving_up, lead, may_begin_at, takin
 use Rattle.kr_model.specs.Load.{image_or, load, take_image, after_load}
 use Rattle.kr_model.specs.Lost.{after_lost, cut, lost}
 use Rattle.kr_model.specs.Reasons as reasons
-use Rattle.kr_model.specs.Request.{after_ask, after_write, decision, is_decided, request}
-use Rattle.kr_model.specs.Tick.{fence, fence_all, fencing_of, lapsed_contacts, tick}
-use Rattle.kr_model.specs.World.{State, World, image_of_tip, is_far, leads_in, log_with, state_of_tip, tip_of, with_batch}
-use Rattle.kr_model.proofs.DueWrites.{batch_leaves}
+use Rattle.kr_model.specs.Request.{after_ask, after_write, is_decided, request, write_items}
+use Rattle.kr_model.specs.Tick.{fence, fence_all, fencing_items, lapsed_contacts, tick}
+use Rattle.kr_model.specs.World.{State, World, is_far, leads_in, log_with, state_of_tip, tip_of, with_batches}
+use Rattle.kr_model.proofs.DueWrites.{batches_leave}
 use Rattle.kr_model.proofs.Leaderships.{control_if, lead_written}
 use Rattle.kr_model.proofs.LoadedImages.{IsLoadable, loaded_valid}
-use Rattle.kr_model.proofs.LogEntries.{batch_written, behind, cut_behind}
+use Rattle.kr_model.proofs.LogEntries.{batches_written, behind, cut_behind}
 use Rattle.law_published_log.specs.FollowingLaws.{log_from}
 
 -- the log is longer by items, and a leadership goes on
@@ -79,9 +81,6 @@ none_more log = ap (λ (is : List Item). record log { items = is }) (sym (append
 both_more : (log : Log) (xs ys : List Item) → log_with (log_with log xs) ys ≡ log_with log (xs ++ ys)
 both_more log xs ys = ap (λ (is : List Item). record log { items = is }) (append_assoc log.items xs ys)
 
-with_items : (w : World) (xs : List Item) → Longer w (with_batch w xs)
-with_items w xs = record { items = xs; writes = batch_written w xs; led = λ some. ap (λ (l : Option ℤ). is_some l) (batch_leaves w xs).leading ∙ some }
-
 itself : (w after : World) → after.log ≡ w.log → after.leading ≡ w.leading → Longer w after
 itself w after log leading = record { items = []; writes = log ∙ none_more w.log; led = λ some. ap (λ (l : Option ℤ). is_some l) leading ∙ some }
 
@@ -92,11 +91,14 @@ longer_then u v w a b = record {
   led = λ some. b.led (a.led some);
 }
 
+with_all : (w : World) (batches : List (List Item)) → Longer w (with_batches w batches)
+with_all w batches = record { items = joined batches; writes = batches_written batches w; led = λ some. ap (λ (l : Option ℤ). is_some l) (batches_leave batches w).leading ∙ some }
+
 fenced : (options : Options) (s : State) (brokers : List ℤ) → Longer s.world (fence_all options s brokers).world
 fenced options s [] = itself s.world s.world refl refl
 fenced options s (broker ∷ brokers) =
     let next = fence options s broker in
-    longer_then s.world next.world (fence_all options next brokers).world (with_items s.world (as_items (fencing_of options (image_of_tip s) broker))) (fenced options next brokers)
+    longer_then s.world next.world (fence_all options next brokers).world (with_all s.world (batches_of (fencing_items options s broker))) (fenced options next brokers)
 
 far_less : (n : ℕ) → is_far (pos n) ≡ false → n < unsigned_abs PLACES_END
 far_less n near = grind (arith, nat_tests)
@@ -163,7 +165,7 @@ module _ (options : Options) (s : State) where
 
   writes_so : (request : Request) (b : Bool) → Longer s.world (cond b (after_write options s request) s).world
   writes_so request false = itself s.world s.world refl refl
-  writes_so request true = with_items s.world (as_items (decision options s request).records)
+  writes_so request true = with_all s.world (batches_of (write_items options s request))
 
   asks_on : (ask : Ask) → Longer s.world (after_ask options s ask).world
   asks_on (asks.Call call) = writes_so call.request (is_decided s.world (asks.Call call))

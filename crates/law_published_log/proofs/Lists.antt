@@ -8,9 +8,10 @@ use Rattle.std.proofs.lemmas.List.Elements.{All-head, All-tail, All-cons, All-ni
 use Rattle.kr_defs.specs.declared.record.Item.{Item}
 use Rattle.kr_calls.specs.declared.events.Entry.{Entry}
 use Rattle.kr_calls.specs.declared.events.Entry.TheVariants as entries
+use Rattle.kr_calls.specs.RightAnswers.{HaveItems}
 use Rattle.kr_calls.specs.SeatList.{Reached, is_below, item_entries, reached_with}
 use Rattle.kr_model.proofs.Places.{is_below as is_lower, isnt_below}
-use Rattle.law_published_log.specs.Following.{AreNotes, HaveItems}
+use Rattle.law_published_log.specs.Following.{AreNotes}
 
 -- ---- notes
 

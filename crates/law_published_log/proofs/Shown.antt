@@ -29,7 +29,8 @@ use Rattle.kr_model.specs.World.{log_with, seen_at, seen_state}
 use Rattle.kr_model.proofs.KeptImages.{image_of_seen, state_below}
 use Rattle.kr_model.proofs.Logs.{cut_below, state_cut_below, state_written_below, written_below}
 use Rattle.kr_model.proofs.Places.{is_below as is_lower, isnt_below}
-use Rattle.law_published_log.specs.Following.{AreNotes, HaveItems, Shows}
+use Rattle.kr_calls.specs.RightAnswers.{HaveItems}
+use Rattle.law_published_log.specs.Following.{AreNotes, Shows}
 use Rattle.law_published_log.specs.FollowingLaws.{ShownListsAreClosed, ShownLogsGoOn, log_from}
 use Rattle.law_published_log.proofs.Lists.{notes_reach, notes_below, notes_low, all_later, all_stay, none_below, some_below, entries_low, take_none, have_more, have_behind, have_own, have_both}
 

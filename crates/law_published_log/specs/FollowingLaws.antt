@@ -43,7 +43,7 @@ pub record ShownLogsGoOn : Type 0 where
 abbrev pub ShownListsAreClosed : Type 0
 ShownListsAreClosed = (log : Log) (end : ℕ) (list : List Entry) → open_at log end ≡ None → Shows log end list → IsClosedList list
 
--- an answer that the rules gave is right where its records are shown
+-- an answer that the rules gave is right where the items of its write are shown
 abbrev pub DecidedAnswersAreRight : Type 0
 DecidedAnswersAreRight =
     (options : Options) (log : Log) (end : ℕ) (list : List Entry) (a : Answered) (d : IsDecided options log a)

@@ -1,10 +1,15 @@
 -- Kafka's POLICY_VIOLATION by computation: what the limits of requests let through, and what is one more.
-use Rattle.std.specs.Prelude.{◌≡◌, ℕ, ℤ, pos, negsuc, true, false, List, [], ◌∷◌, ◌+◌, map, Some, None, codes}
+use Rattle.std.specs.Prelude.{◌≡◌, ◌≤◌, ℕ, ℤ, pos, negsuc, Bool, true, false, ◌&&◌, nat_le, List, [], ◌∷◌, ◌++◌, length, sum_by, ◌+◌, ◌*◌, map, Some, None, codes}
 use Rattle.std.specs.List.{range_with_len}
-use Rattle.std.proofs.Common.{refl, replicate}
+use Rattle.std.proofs.Common.{◌∙◌, ap, arith, refl, replicate}
+use Rattle.std.proofs.lemmas.Bool.{and_from, le-leb}
+use Rattle.std.proofs.lemmas.Bool.Decides.{nat_tests}
+use Rattle.std.proofs.lemmas.List.{length-append, length-replicate}
+use Rattle.std.proofs.lemmas.List.Folds.{sum_by-replicate}
 use Rattle.kr_defs.specs.declared.broker.Broker.{Broker}
 use Rattle.kr_defs.specs.declared.options.Options.{Options}
 use Rattle.kr_defs.specs.declared.partition.Partition.{Partition}
+use Rattle.kr_defs.specs.declared.record.Record.{Record}
 use Rattle.kr_defs.specs.declared.record.Record.TheVariants as kinds
 use Rattle.kr_defs.specs.Apply.{apply_record}
 use Rattle.kr_defs.specs.Build.{aimed, built, completes, difference, ended, settled, standing_by}
@@ -54,18 +59,28 @@ none_heard = record { contacts = []; stopping = [] }
 
 -- ---- records of one request
 
-records_10000 : is_request (replicate 10000 kinds.NoOp) ≡ true
+-- so many are too long to be computed: they are told by their number
+is_request_by : (n : ℕ) → is_request (replicate n kinds.NoOp) ≡ (nat_le n 400000 && nat_le (n * 4) 400000000)
 unfolding value_bytes
-records_10000 = refl
+is_request_by n =
+    ap (λ m. nat_le m 400000 && nat_le (sum_by value_bytes (replicate n kinds.NoOp)) 400000000) (length-replicate n kinds.NoOp)
+    ∙ ap (λ m. nat_le n 400000 && nat_le m 400000000) (sum_by-replicate value_bytes n kinds.NoOp)
 
-records_10001 : is_request (replicate 10001 kinds.NoOp) ≡ false
-unfolding value_bytes
-records_10001 = refl
+records_400000 : (n : ℕ) → n ≤ 400000 → is_request (replicate n kinds.NoOp) ≡ true
+records_400000 n few =
+    is_request_by n ∙ and_from (nat_le n 400000) (nat_le (n * 4) 400000000) (le-leb n 400000 few) (le-leb (n * 4) 400000000 (omega (arith, few)))
+
+over : (n : ℕ) (b : Bool) → 400001 ≤ n → (nat_le n 400000 && b) ≡ false
+over n b many = ap (λ first. first && b) (let past : nat_le n 400000 ≡ false = grind (arith, nat_tests) in past)
+
+records_400001 : (n : ℕ) → 400001 ≤ n → is_request (replicate n kinds.NoOp) ≡ false
+records_400001 n many = is_request_by n ∙ over n (nat_le (n * 4) 400000000) many
 
 -- the records before count
-records_before : is_within_limits (replicate 10000 kinds.NoOp) (kinds.NoOp ∷ []) ≡ false
-unfolding value_bytes
-records_before = refl
+records_before : (n : ℕ) → 400000 ≤ n → is_within_limits (replicate n kinds.NoOp) (kinds.NoOp ∷ []) ≡ false
+records_before n many =
+    let all : List Record = replicate n kinds.NoOp ++ kinds.NoOp ∷ [] in
+    over (length all) (nat_le (sum_by value_bytes all) 400000000) (let long = length-append (replicate n kinds.NoOp) (kinds.NoOp ∷ []) in let own = length-replicate n kinds.NoOp in omega (arith, long, own, many))
 
 targets_32 : is_within_limits [] (kinds.Partition (pos 0) 77 (whole (ids 1 32)) ∷ []) ≡ true
 unfolding value_bytes
@@ -109,13 +124,13 @@ grown_from last =
     (create_partitions.decided (cluster 1 (((77, pos 0), whole (pos 1 ∷ [])) ∷ ((77, pos last), whole (pos 1 ∷ [])) ∷ [])) (pos 30)
     (record { topics = record { name = codes "t"; count = pos (last + 2); assignments = Some (record { brokers = pos 1 ∷ [] } ∷ []) } ∷ []; validate_only = true })).1
 
-index_8999 : grown_from 8998 ≡ replies.CreatePartitions (record { results = record { name = codes "t"; error = pos 0 } ∷ [] })
+index_199999 : grown_from 199998 ≡ replies.CreatePartitions (record { results = record { name = codes "t"; error = pos 0 } ∷ [] })
 unfolding create_partitions.decided done taken apply_record value_bytes is_well_formed
-index_8999 = refl
+index_199999 = refl
 
-index_9000 : grown_from 8999 ≡ replies.CreatePartitions (record { results = record { name = codes "t"; error = POLICY_VIOLATION } ∷ [] })
+index_200000 : grown_from 199999 ≡ replies.CreatePartitions (record { results = record { name = codes "t"; error = POLICY_VIOLATION } ∷ [] })
 unfolding create_partitions.decided done taken apply_record value_bytes is_well_formed
-index_9000 = refl
+index_200000 = refl
 
 -- ---- a reassignment over too many replicas
 
