@@ -14,6 +14,7 @@ pub mod Logs
 pub mod LongerLogs
 pub mod OrderlyStates
 pub mod OutputsLeft
+pub mod PackedWrites
 pub mod Places
 pub mod Queues
 pub mod RightReplies

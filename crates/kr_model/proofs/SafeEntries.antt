@@ -2,7 +2,7 @@
 use Rattle.std.proofs.Common.{◌≡◌, ◌∙◌, sym, subst, ℕ, ◌+◌, ℤ, pos, Bool, true, false, cond, List, [], ◌∷◌, ◌++◌, refl, ap}
 use Rattle.std.proofs.lemmas.List.{append_assoc, append-nil}
 use Rattle.std.specs.Prelude.{◌+ℤ◌, ◌&&◌, Option, Some, None, Result, Ok, Err, IfOk, IsSome, not, int_lt, is_some, length}
-use Rattle.std.specs.Option.{option_map, option_map_or}
+use Rattle.std.specs.Option.{option_map_or}
 use Rattle.std.specs.Ordering.{int_cmp, int_eq}
 use Rattle.std.specs.Result.{result_unwrap_or}
 use Rattle.kr_calls.specs.declared.calls.Ask.{Ask}
@@ -33,10 +33,10 @@ use Rattle.kr_defs.specs.Heartbeats.{end, heard}
 use Rattle.kr_defs.specs.Image.{Image, IsValid, empty}
 use Rattle.kr_defs.specs.ImageLaws.{as_items}
 use Rattle.kr_defs.specs.Log.{Log, open_at, state_at, tip}
-use Rattle.kr_defs.specs.LogStates.{LogState, Opened, apply_all_at, apply_at, closed, transaction}
+use Rattle.kr_defs.specs.LogStates.{LogState, apply_all_at, apply_at, closed, transaction}
 use Rattle.kr_defs.specs.Map as maps
 use Rattle.kr_defs.proofs.Logs.{valid_at}
-use Rattle.kr_defs.proofs.StateLogs.{apply_append as states_append, open_told, plain_all, plain_at}
+use Rattle.kr_defs.proofs.StateLogs.{apply_append as states_append, ok_is, plain_all, plain_at}
 use Rattle.kr_defs.proofs.Tests.{both}
 use Rattle.law_safety.specs.SafeChangeLaws.{AreSafe}
 use Rattle.law_safety.proofs.SafeRequests.{fencings_are_safe, requests_are_safe, valid_after}
@@ -54,6 +54,7 @@ use Rattle.kr_model.proofs.Logs.{as_records, image_there, state_seen, state_writ
 use Rattle.kr_model.proofs.LogEntries.{behind, cut_behind, cut_written, none_behind, placed_both}
 use Rattle.kr_model.proofs.Leaderships.{control_if, lead_written}
 use Rattle.kr_model.proofs.OrderlyStates.{none_lapses}
+use Rattle.kr_model.proofs.PackedWrites.{state_closed}
 
 -- ---- items as entries
 
@@ -346,10 +347,6 @@ module _ (options : Options) (s : State) (state : LogState) (valid : IsValid sta
   event_safe (events.Request client now ask) own = request_safe client now ask
   event_safe events.Image own = safe_none None state (pos (tip_of s)) (items_from s.world.log (tip_of s)) (none_behind s.world.log)
 
-none_open : (o : Option Opened) → option_map (λ (x : Opened). x.place) o ≡ None → o ≡ None
-none_open None is = refl
-none_open (Some x) is = absurd cc
-
 pub steps_are_safe : StepsAreSafe
 steps_are_safe before after event s writes k step own =
     let image = before.images.tip in
@@ -357,8 +354,8 @@ steps_are_safe before after event s writes k step own =
     let valid = valid_at s.world.log (tip_of s) k.is_state.valid image k.present in
     let calm : IsCalm s seen.state = record {
       leads = λ some.
-          let none = none_open seen.state.opened (open_told s.world.log (tip_of s) seen.state seen.there ∙ k.is_state.decided (of_some s.world.leading some)) in
-          ap (λ (o : Option Opened). record seen.state { opened = o }) none;
+          let there : Ok seen.state ≡ Ok (closed image) = sym seen.there ∙ state_closed s.world.log image k.present (k.is_state.decided (of_some s.world.leading some)) in
+          ok_is seen.state (closed image) there ∙ ap (λ (i : Image). closed i) (sym seen.same);
       standby = λ none. (k.is_state.at_standby none).1;
     } in
     subst (λ (x : LogState). AreSafeEntries (exchange_in before.options (at_time_of s event) event) x after.fresh) (sym (ap (λ (r : Result LogState Ill). result_unwrap_or r (closed empty)) seen.there))

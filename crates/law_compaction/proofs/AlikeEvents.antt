@@ -14,10 +14,12 @@ use Rattle.kr_calls.specs.declared.events.Event.{Event}
 use Rattle.kr_calls.specs.declared.events.Reason.{Reason}
 use Rattle.kr_calls.specs.declared.calls.Ask.TheVariants as asks
 use Rattle.kr_calls.specs.declared.events.Event.TheVariants as events
-use Rattle.kr_calls.specs.Decide.{Decision, decide, is_read}
+use Rattle.kr_calls.specs.Decide.{Decision, is_read}
+use Rattle.kr_calls.specs.Packed.{batches_of, decide_taken, items_of_write}
 use Rattle.kr_defs.specs.declared.basis.Basis.{Basis}
 use Rattle.kr_defs.specs.declared.ill.Ill.{Ill}
 use Rattle.kr_defs.specs.declared.options.Options.{Options}
+use Rattle.kr_defs.specs.declared.record.Item.{Item}
 use Rattle.kr_defs.specs.declared.record.Item.TheVariants as items
 use Rattle.kr_defs.specs.declared.record.Record.{Record}
 use Rattle.kr_defs.specs.declared.record.Record.TheVariants as kinds
@@ -34,11 +36,11 @@ use Rattle.kr_model.specs.Commit.{commit, after_commit, ends_up_to, is_end}
 use Rattle.kr_model.specs.Events.{happens, outcome, at_time_of}
 use Rattle.kr_model.specs.Lead.{after_lead, giving_up, lead, may_begin_at, up_to}
 use Rattle.kr_model.specs.Lost.{after_lost, lost}
-use Rattle.kr_model.specs.World.{leads_in, State, with_heartbeats, image_of_tip, is_far, log_with, state_of_tip, tip_of, with_batch, with_records}
+use Rattle.kr_model.specs.World.{leads_in, State, with_heartbeats, image_of_tip, is_far, log_with, state_of_tip, tip_of, with_batch, with_batches, with_records}
 use Rattle.kr_model.specs.Reasons as reasons
 use Rattle.kr_model.specs.Batch.{batch_or, end_of, batch, take_batch, after_batch, unless_ill}
 use Rattle.kr_model.specs.Load.{image_or, load, take_image, after_load}
-use Rattle.kr_model.specs.Request.{after_ask, after_write, decision, is_decided, request}
+use Rattle.kr_model.specs.Request.{after_ask, after_write, decision, is_decided, request, write_items}
 use Rattle.kr_model.specs.Tick.{fence_all, lapsed_contacts, tick}
 use Rattle.law_compaction.specs.ReplacedPrefix.{IsLater}
 use Rattle.law_compaction.proofs.AlikeLogs.{same_closed, same_open_at_tip, shortens_cut, shortens_itself, shortens_written}
@@ -287,20 +289,29 @@ module _ (before : State) (options : Options) (r : State) (log : Log) (greatest 
       subst (λ brokers. Alike before (fence_all options s brokers) (fence_all options r (lapsed_contacts options r))) (sym same_lapsed) (all_fenced_alike before options (lapsed_contacts options r) s r k))
 
   -- what is decided while they lead
-  pub same_decided : is_some r.world.leading ≡ true → (request : Request) → decision options s request ≡ decision options r request
-  same_decided leads request =
-      ap (λ (i : Image). decide options i s.basis (pos (tip_of s)) request) images
-      ∙ (ap (λ (b : Basis). decide options (image_of_tip r) b (pos (tip_of s)) request) (same_bases before s r k leads)
-      ∙ ap (λ n. decide options (image_of_tip r) r.basis (pos n) request) tips)
+  same_of : {X : Type 0} (f : Options → Image → Basis → ℤ → Request → X) → is_some r.world.leading ≡ true → (request : Request)
+      → f options (image_of_tip s) s.basis (pos (tip_of s)) request ≡ f options (image_of_tip r) r.basis (pos (tip_of r)) request
+  same_of f leads request =
+      ap (λ (i : Image). f options i s.basis (pos (tip_of s)) request) images
+      ∙ (ap (λ (b : Basis). f options (image_of_tip r) b (pos (tip_of s)) request) (same_bases before s r k leads)
+      ∙ ap (λ n. f options (image_of_tip r) r.basis (pos n) request) tips)
 
-  abbrev after : State → Decision → State
-  after t d = record { world = with_batch t.world (as_items d.records); basis = with_heartbeats t.basis d.heartbeats }
+  pub same_decided : is_some r.world.leading ≡ true → (request : Request) → decision options s request ≡ decision options r request
+  same_decided leads request = same_of decide_taken leads request
+
+  pub same_written : is_some r.world.leading ≡ true → (request : Request) → write_items options s request ≡ write_items options r request
+  same_written leads request = same_of items_of_write leads request
+
+  abbrev after : State → List Item → Decision → State
+  after t own d = record { world = with_batches t.world (batches_of own); basis = with_heartbeats t.basis d.heartbeats }
 
   write_alike : (request : Request) (b : Bool) → (b ≡ true → is_some r.world.leading ≡ true) → Alike before (cond b (after_write options s request) s) (cond b (after_write options r request) r)
   write_alike request false led = k
   write_alike request true led =
       let d = decision options r request in
-      subst (λ (x : Decision). Alike before (after s x) (after_write options r request)) (sym (same_decided (led refl) request)) (appended_alike before s r k (as_items d.records) d.heartbeats)
+      let own = write_items options r request in
+      subst (λ (xs : List Item). Alike before (after s xs (decision options s request)) (after_write options r request)) (sym (same_written (led refl) request))
+      (subst (λ (x : Decision). Alike before (after s own x) (after_write options r request)) (sym (same_decided (led refl) request)) (appended_alike before s r k (batches_of own) d.heartbeats))
 
   pub asked_alike : (ask : Ask) → Alike before (after_ask options s ask) (after_ask options r ask)
   asked_alike (asks.Call call) =

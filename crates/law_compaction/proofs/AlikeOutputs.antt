@@ -12,10 +12,12 @@ use Rattle.kr_calls.specs.declared.calls.Ask.TheVariants as asks
 use Rattle.kr_calls.specs.declared.events.Event.TheVariants as events
 use Rattle.kr_calls.specs.declared.events.Output.TheVariants as given
 use Rattle.kr_calls.specs.Decide.{Decision, is_read, query}
+use Rattle.kr_calls.specs.Packed.{batches_of}
 use Rattle.kr_calls.specs.Refuse.{refuse}
 use Rattle.kr_calls.specs.declared.errors.TheConstants.{NOT_CONTROLLER}
 use Rattle.kr_defs.specs.declared.basis.Basis.{Basis}
 use Rattle.kr_defs.specs.declared.options.Options.{Options}
+use Rattle.kr_defs.specs.declared.record.Item.{Item}
 use Rattle.kr_defs.specs.declared.record.Record.{Record}
 use Rattle.kr_defs.specs.Image.{Image}
 use Rattle.kr_defs.specs.ImageLaws.{as_items}
@@ -24,39 +26,46 @@ use Rattle.kr_defs.proofs.Tests.{Gives, both}
 use Rattle.kr_snapshot.specs.ImageText.{image_text}
 use Rattle.kr_model.specs.declared.writes.Write.{Write}
 use Rattle.kr_model.specs.Events.{happens, outcome, at_time_of}
-use Rattle.kr_model.specs.Outputs.{answers, answers_in, answers_now, append, append_fencings, append_for, appends, if_accepted, images, is_open, is_open_in, new_writes, outputs_by, outputs_of, waiting_after, write_of, writes_of}
+use Rattle.kr_model.specs.Outputs.{answers, answers_in, answers_now, append, append_all, append_fencings, append_for, appends, if_accepted, images, is_open, is_open_in, new_writes, outputs_by, outputs_of, waiting_after, write_of, writes_of}
 use Rattle.kr_model.specs.Reasons.{led_epoch}
-use Rattle.kr_model.specs.Request.{after_ask, decision, is_decided}
-use Rattle.kr_model.specs.Tick.{fence, fencing_of, lapsed_contacts}
+use Rattle.kr_model.specs.Request.{after_ask, decision, is_decided, write_items}
+use Rattle.kr_model.specs.Tick.{fence, fencing_items, lapsed_contacts}
 use Rattle.kr_model.specs.Lead.{giving_up, taking_over}
-use Rattle.kr_model.specs.World.{State, closed_of, image_of_closed, image_of_tip, tip_of}
+use Rattle.kr_model.specs.World.{State, closed_of, image_of_closed, tip_of, with_batch}
 use Rattle.law_compaction.specs.ReplacedPrefix.{IsLater, unnumbered}
-use Rattle.law_compaction.proofs.AlikeEvents.{AlikeResults, IsDue, asked_alike, at_time, begun, begun_so, is_due, led_times, outcomes, same_decided, same_given_up, same_lapsed, stays_alike}
-use Rattle.law_compaction.proofs.AlikeStates.{Alike, fenced_alike, is_with_past, same_bases, same_closed_ends, same_closed_images, same_images, same_times, same_tips, with_past}
+use Rattle.law_compaction.proofs.AlikeEvents.{AlikeResults, IsDue, asked_alike, at_time, begun, begun_so, is_due, led_times, outcomes, same_decided, same_given_up, same_lapsed, same_written, stays_alike}
+use Rattle.law_compaction.proofs.AlikeStates.{Alike, fenced_alike, is_with_past, same_bases, same_closed_ends, same_closed_images, same_fencing, same_times, same_tips, with_past, written_alike}
 use Rattle.kr_model.proofs.OrderlyStates.{IsOrderly, goes_on, none_lapses, stays_orderly, timed_orderly}
 
 -- ---- batches
 
 module _ (before : State) (options : Options) where
-  module _ (records : List Record) where
-    -- the batch of these records
+  module _ (own : List Item) where
+    -- the batch of these items
     abbrev batch_at : ℕ → Option ℤ → ℤ → List Output
     batch_at place leading time =
-        cond (length records == 0) [] (given.Append (batch_bytes (record { base = pos place; epoch = led_epoch leading; time = time; items = as_items records })) ∷ [])
+        cond (length own == 0) [] (given.Append (batch_bytes (record { base = pos place; epoch = led_epoch leading; time = time; items = own })) ∷ [])
 
-    same_append : (s r : State) → Alike before s r → s.basis.time ≡ r.basis.time → append s records ≡ append r records
+    same_append : (s r : State) → Alike before s r → s.basis.time ≡ r.basis.time → append s own ≡ append r own
     same_append s r k times =
         ap (λ n. batch_at n s.world.leading s.basis.time) (same_tips before s r k)
         ∙ (ap (λ l. batch_at (tip_of r) l s.basis.time) k.leading
         ∙ ap (λ t. batch_at (tip_of r) r.world.leading t) times)
 
+  all_same : (batches : List (List Item)) (s r : State) → Alike before s r → s.basis.time ≡ r.basis.time → append_all s batches ≡ append_all r batches
+  all_same [] s r k times = refl
+  all_same (batch ∷ batches) s r k times =
+      let next : State → State = λ t. record t { world = with_batch t.world batch } in
+      ap (λ first. first ++ append_all (next s) batches) (same_append batch s r k times)
+      ∙ ap (λ rest. append r batch ++ rest) (all_same batches (next s) (next r) (written_alike before s r k batch) times)
+
   same_fencings : (brokers : List ℤ) (s r : State) → Alike before s r → s.basis.time ≡ r.basis.time → append_fencings options s brokers ≡ append_fencings options r brokers
   same_fencings [] s r k times = refl
   same_fencings (broker ∷ brokers) s r k times =
-      let records = fencing_of options (image_of_tip r) broker in
-      ap (λ (i : Image). append s (fencing_of options i broker) ++ append_fencings options (fence options s broker) brokers) (same_images before s r k)
-      ∙ (ap (λ first. first ++ append_fencings options (fence options s broker) brokers) (same_append records s r k times)
-      ∙ ap (λ rest. append r records ++ rest) (same_fencings brokers (fence options s broker) (fence options r broker) (fenced_alike before options s r k broker) times))
+      let own = fencing_items options r broker in
+      ap (λ (xs : List Item). append_all s (batches_of xs) ++ append_fencings options (fence options s broker) brokers) (same_fencing before options s r k broker)
+      ∙ (ap (λ first. first ++ append_fencings options (fence options s broker) brokers) (all_same (batches_of own) s r k times)
+      ∙ ap (λ rest. append_all r (batches_of own) ++ rest) (same_fencings brokers (fence options s broker) (fence options r broker) (fenced_alike before options s r k broker) times))
 
 -- ---- an event
 
@@ -83,11 +92,14 @@ module _ (before : State) (options : Options) (r : State) (log : Log) (greatest 
       ap (append_fencings options s) (same_lapsed before options r log greatest count time led k o)
       ∙ same_fencings before options (lapsed_contacts options r) s r k (same_times before s r k (some_leads r.world.leading epoch leads))
 
-  append_by : (request : Request) (b : Bool) → (b ≡ true → is_some r.world.leading ≡ true) → cond b (append s (decision options s request).records) [] ≡ cond b (append r (decision options r request).records) []
+  written : is_some r.world.leading ≡ true → (request : Request) → write_items options s request ≡ write_items options r request
+  written leads request = same_written before options r log greatest count time led k o leads request
+
+  append_by : (request : Request) (b : Bool) → (b ≡ true → is_some r.world.leading ≡ true) → cond b (append_all s (batches_of (write_items options s request))) [] ≡ cond b (append_all r (batches_of (write_items options r request))) []
   append_by request false leads = refl
   append_by request true leads =
-      ap (λ (d : Decision). append s d.records) (decisions (leads refl) request)
-      ∙ same_append before options (decision options r request).records s r k (same_times before s r k (leads refl))
+      ap (λ (own : List Item). append_all s (batches_of own)) (written (leads refl) request)
+      ∙ all_same before options (batches_of (write_items options r request)) s r k (same_times before s r k (leads refl))
 
   same_append_for : (ask : Ask) → append_for options s ask ≡ append_for options r ask
   same_append_for (asks.Call call) =
@@ -95,12 +107,12 @@ module _ (before : State) (options : Options) (r : State) (log : Log) (greatest 
   same_append_for (asks.Bare correlation fault) = refl
 
   -- the abort of a new leader
-  abort_by : (epoch next : ℤ) → before.basis.time ≤ℤ r.basis.time → append (taking_over s epoch next) (giving_up (taking_over s epoch next).world) ≡ append (taking_over r epoch next) (giving_up (taking_over r epoch next).world)
+  abort_by : (epoch next : ℤ) → before.basis.time ≤ℤ r.basis.time → append (taking_over s epoch next) (as_items (giving_up (taking_over s epoch next).world)) ≡ append (taking_over r epoch next) (as_items (giving_up (taking_over r epoch next).world))
   abort_by epoch next due =
       let first = begun before options r log greatest count time led k o epoch next due s in
       let second = begun before options r log greatest count time led k o epoch next due r in
-      ap (λ (records : List Record). append (taking_over s epoch next) records) (same_given_up before options r log greatest count time led k o epoch next due)
-      ∙ same_append before options (giving_up (taking_over r epoch next).world) first second (begun_so before options r log greatest count time led k o epoch next due) (led_times before options r log greatest count time led k o epoch next due)
+      ap (λ (records : List Record). append (taking_over s epoch next) (as_items records)) (same_given_up before options r log greatest count time led k o epoch next due)
+      ∙ same_append before options (as_items (giving_up (taking_over r epoch next).world)) first second (begun_so before options r log greatest count time led k o epoch next due) (led_times before options r log greatest count time led k o epoch next due)
 
   same_appends : (event : Event) → IsDue before r event → appends options s event ≡ appends options r event
   same_appends (events.Lead epoch next now) due = abort_by epoch next due.1
@@ -140,25 +152,27 @@ module _ (before : State) (options : Options) (r : State) (log : Log) (greatest 
   same_answers_now events.Image = refl
 
   -- a write, with what it needs and its reply
-  abbrev write_as : ℕ → Call → ℕ → ℕ → Basis → Decision → Write
-  write_as client call need place basis d = record {
+  abbrev write_as : ℕ → Call → ℕ → ℕ → Basis → Decision → List Item → Write
+  write_as client call need place basis d own = record {
     client = client;
     correlation = call.correlation;
     epoch = led_epoch r.world.leading;
     need = pos need;
     reply = d.reply;
     refusal = refuse call.request NOT_CONTROLLER;
-    decided = record { place = pos place; count = length d.records; basis = basis };
+    decided = record { place = pos place; count = length own; basis = basis };
   }
 
   write_by : (client : ℕ) (call : Call) (b : Bool) → (b ≡ true → is_some r.world.leading ≡ true) → cond b (write_of options s client call ∷ []) [] ≡ cond b (write_of options r client call ∷ []) []
   write_by client call false leads = refl
   write_by client call true leads =
       let need = tip_of (after_ask options r (asks.Call call)) in
-      ap (λ n. write_as client call n (tip_of s) s.basis (decision options s call.request) ∷ []) (same_tips before _ _ (asked_alike before options r log greatest count time led k o (asks.Call call)))
-      ∙ (ap (λ n. write_as client call need n s.basis (decision options s call.request) ∷ []) (same_tips before s r k)
-      ∙ (ap (λ (b : Basis). write_as client call need (tip_of r) b (decision options s call.request) ∷ []) (same_bases before s r k (leads refl))
-      ∙ ap (λ (d : Decision). write_as client call need (tip_of r) r.basis d ∷ []) (decisions (leads refl) call.request)))
+      let own = write_items options s call.request in
+      ap (λ n. write_as client call n (tip_of s) s.basis (decision options s call.request) own ∷ []) (same_tips before _ _ (asked_alike before options r log greatest count time led k o (asks.Call call)))
+      ∙ (ap (λ n. write_as client call need n s.basis (decision options s call.request) own ∷ []) (same_tips before s r k)
+      ∙ (ap (λ (b : Basis). write_as client call need (tip_of r) b (decision options s call.request) own ∷ []) (same_bases before s r k (leads refl))
+      ∙ (ap (λ (d : Decision). write_as client call need (tip_of r) r.basis d own ∷ []) (decisions (leads refl) call.request)
+      ∙ ap (λ (xs : List Item). write_as client call need (tip_of r) r.basis (decision options r call.request) xs ∷ []) (written (leads refl) call.request))))
 
   pub same_writes : (event : Event) → writes_of options s event ≡ writes_of options r event
   same_writes (events.Lead epoch next now) = refl

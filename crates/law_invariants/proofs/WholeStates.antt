@@ -13,15 +13,18 @@ use Rattle.kr_calls.specs.declared.events.Event.{Event}
 use Rattle.kr_calls.specs.declared.events.Event.TheVariants as events
 use Rattle.kr_calls.specs.declared.events.Reason.{Reason}
 use Rattle.kr_calls.specs.Decide.{is_read}
+use Rattle.kr_calls.specs.Deciding.{apply_records}
+use Rattle.kr_calls.specs.Packed.{batches_of, packed, place_taken, records_of_write}
 use Rattle.kr_calls.proofs.DecisionMeanings.{requests_stand}
 use Rattle.kr_defs.specs.declared.ill.Ill.{Ill}
 use Rattle.kr_defs.specs.declared.options.Options.{Options}
 use Rattle.kr_defs.specs.declared.record.Item.{Item}
+use Rattle.kr_defs.specs.declared.record.Record.{Record}
 use Rattle.kr_defs.specs.Brokers.{stopping, unfenced}
 use Rattle.kr_defs.specs.Heartbeats.{AreHeartbeats, heard}
 use Rattle.kr_defs.specs.Image.{Image, IsValid, empty}
 use Rattle.kr_defs.specs.ImageLaws.{as_items}
-use Rattle.kr_defs.specs.Log.{Log, apply_all, image_at, open_at, tip}
+use Rattle.kr_defs.specs.Log.{Log, image_at, open_at, state_at, tip}
 use Rattle.kr_defs.specs.LogStates.{LogState, apply_all_at, closed, first_ill_at}
 use Rattle.kr_defs.specs.Map as entries
 use Rattle.kr_defs.proofs.HeartbeatLists.{begun, ended, left}
@@ -38,19 +41,19 @@ use Rattle.kr_model.specs.Load.{after_load, image_or, load, take_image}
 use Rattle.kr_model.specs.Lost.{after_lost, cut, lost}
 use Rattle.kr_model.specs.Reasons as reasons
 use Rattle.kr_model.specs.Request.{after_ask, after_write, decision, is_decided, request}
-use Rattle.kr_model.specs.Tick.{fence, fence_all, fencing_of, lapsed_contacts, tick}
-use Rattle.kr_model.specs.World.{State, World, image_of_tip, is_far, leads_in, log_with, seen_at, state_of_tip, tip_of, with_batch}
+use Rattle.kr_model.specs.Tick.{fence, fence_all, fencing_items, fencing_of, lapsed_contacts, tick}
+use Rattle.kr_model.specs.World.{State, World, image_of_tip, is_far, leads_in, log_with, seen_at, state_of_tip, tip_of, with_batches}
 use Rattle.kr_model.proofs.ContactTimes.{AreInTime, begun_now, decided_in_time, leaving_in_time}
-use Rattle.kr_model.proofs.DueWrites.{batch_leaves}
+use Rattle.kr_model.proofs.DueWrites.{batches_leave}
 use Rattle.kr_model.proofs.EventsWithoutWrites.{later_too, never_earlier}
 use Rattle.kr_model.proofs.FencedBrokers.{hears_by}
 use Rattle.kr_model.proofs.KeptImages.{not_higher, seen_below}
 use Rattle.kr_model.proofs.Leaderships.{control_if, image_left, lead_open, lead_state, lead_written}
 use Rattle.kr_model.proofs.LoadedImages.{IsLoadable, loaded_valid}
-use Rattle.kr_model.proofs.LogEntries.{batch_written}
-use Rattle.kr_model.proofs.Logs.{HasState, as_records, cut_below, cut_tip, image_there, means_unless_ill, open_still, state_seen, state_written}
-use Rattle.kr_model.proofs.LongerLogs.{present_then}
+use Rattle.kr_model.proofs.LogEntries.{cut_written}
+use Rattle.kr_model.proofs.Logs.{HasState, cut_below, cut_tip, image_there, means_unless_ill, state_seen, state_written}
 use Rattle.kr_model.proofs.OrderlyStates.{IsOrderly, none_lapses}
+use Rattle.kr_model.proofs.PackedWrites.{packed_closed, packed_written, state_closed}
 use Rattle.kr_model.proofs.Queues.{never}
 use Rattle.kr_model.proofs.SafeEntries.{fenced_to}
 use Rattle.kr_model.proofs.UnfencedBrokers.{stopping_once, stopping_within, unfenced_once}
@@ -68,19 +71,22 @@ pub record Makes (log : Log) (image : Image) : Type 0 where
 seen_is : (log : Log) (image : Image) → Makes log image → seen_at log (tip log) ≡ image
 seen_is log image m = ap (λ (r : Result Image Ill). result_unwrap_or r empty) m.shows
 
-makes_then : (log : Log) (more : List Item) (before after : Image) → Makes log before → apply_all before more ≡ Ok after → Makes (log_with log more) after
-makes_then log more before after m means = record { valid = m.valid; shows = present_then log more before after m.shows means }
+-- what is written of records that have a meaning where they are decided
+module _ (w : World) (records : ℤ → List Record) (at : ℤ) (before after : Image) (m : Makes w.log before) (none : open_at w.log (tip w.log) ≡ None) (means : apply_records before (records (place_taken records at)) ≡ Ok after) where
+  abbrev grown : Log
+  grown = (with_batches w (batches_of (packed records at))).log
 
-batch_makes : (w : World) (more : List Item) (before after : Image) → Makes w.log before → apply_all before more ≡ Ok after → Makes (with_batch w more).log after
-batch_makes w more before after m means = subst (λ (log : Log). Makes log after) (sym (batch_written w more)) (makes_then w.log more before after m means)
+  here : state_at w.log (tip w.log) ≡ Ok (closed before)
+  here = state_closed w.log before m.shows none
 
--- items that an image takes leave the open transaction as it is
-open_kept : (w : World) (more : List Item) (before after : Image) → Makes w.log before → apply_all before more ≡ Ok after
-    → open_at (with_batch w more).log (tip (with_batch w more).log) ≡ open_at w.log (tip w.log)
-open_kept w more before after m means =
-    let seen = state_seen w.log (tip w.log) before m.shows in
-    ap (λ (log : Log). open_at log (tip log)) (batch_written w more)
-    ∙ open_still w.log more seen.state after seen.there (ap (λ i. apply_all i more) seen.same ∙ means)
+  packed_makes : Makes grown after
+  packed_makes = record {
+    valid = subst (λ (l : Log). IsValid l.image) (sym (cut_written w (packed records at))) m.valid;
+    shows = image_there grown (tip grown) (closed after) (packed_written w records at before after here means);
+  }
+
+  still_closed : open_at grown (tip grown) ≡ None
+  still_closed = packed_closed w records at before after here means
 
 -- ---- states
 
@@ -114,10 +120,11 @@ module _ (options : Options) where
   fence_whole s broker leads w =
       let image = image_of_tip s in
       let f = fenced_to options image broker (valid_tip s w) in
-      let records = fencing_of options image broker in
+      let records = λ (place : ℤ). fencing_of options image broker in
+      let at = pos (tip_of s) in
       whole (fence options s broker) f.after
-      (batch_makes s.world (as_items records) image f.after w.log (as_records image records ∙ f.means))
-      (λ _. open_kept s.world (as_items records) image f.after w.log (as_records image records ∙ f.means) ∙ w.decided leads)
+      (packed_makes s.world records at image f.after w.log (w.decided leads) f.means)
+      (λ _. still_closed s.world records at image f.after w.log (w.decided leads) f.means)
       (λ _. hears_by options.minimum (heard s.basis) image f.after broker (entries.get int_cmp image.brokers broker) (valid_tip s w) refl (w.hears leads) f.means)
       (leaving_in_time s.basis.time (heard s.basis) broker w.in_time)
       (left (heard s.basis) broker w.stand)
@@ -126,7 +133,7 @@ module _ (options : Options) where
   fenced_whole [] s leads w = w
   fenced_whole (broker ∷ brokers) s leads w =
       fenced_whole brokers (fence options s broker)
-      (subst (λ (l : Option ℤ). IsSome l) (sym (batch_leaves s.world (as_items (fencing_of options (image_of_tip s) broker))).leading) leads)
+      (subst (λ (l : Option ℤ). IsSome l) (sym (batches_leave (batches_of (fencing_items options s broker)) s.world).leading) leads)
       (fence_whole s broker leads w)
 
 -- ---- events
@@ -236,11 +243,14 @@ module _ (options : Options) (s : State) (k : IsOrderly s) (w : IsWhole s) where
 
   written_whole : (asked : Request) → IsSome s.world.leading → IsWhole (after_write options s asked)
   written_whole asked leads =
+      let tip = pos (tip_of s) in
+      let records = records_of_write options image s.basis asked in
+      let place = place_taken records tip in
       let d = decision options s asked in
-      let place = pos (tip_of s) in
+      let means = requests_stand options s.basis.time (heard s.basis) image place asked in
       whole (after_write options s asked) d.image
-      (batch_makes s.world (as_items d.records) image d.image w.log (as_records image d.records ∙ requests_stand options s.basis.time (heard s.basis) image place asked))
-      (λ _. open_kept s.world (as_items d.records) image d.image w.log (as_records image d.records ∙ requests_stand options s.basis.time (heard s.basis) image place asked) ∙ w.decided leads)
+      (packed_makes s.world records tip image d.image w.log (w.decided leads) means)
+      (λ _. still_closed s.world records tip image d.image w.log (w.decided leads) means)
       (λ _. requests_keep_hearing options s.basis image place asked valid (w.hears leads))
       (decided_in_time options s.basis image place asked w.in_time)
       (decided_stand options s.basis image place asked valid (w.hears leads) w.in_time w.stand)
