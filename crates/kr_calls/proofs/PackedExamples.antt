@@ -61,6 +61,6 @@ unfolding value_bytes
 last_is = record { some = omega arith; within = refl }
 
 -- the begin counts among the 10,000 of the first batch, and the end is in the last
-batches_10001 : batches_of (packed (fences 10001) (pos 12)) ≡ first_batch ∷ last_batch ∷ []
+pub batches_10001 : batches_of (packed (fences 10001) (pos 12)) ≡ first_batch ∷ last_batch ∷ []
 unfolding packed
 batches_10001 = alone_by_recursion item_bytes (first_batch ∷ last_batch ∷ []) (first_is, (last_is, tt)) (refl, (tt, tt))

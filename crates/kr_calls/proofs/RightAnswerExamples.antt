@@ -62,5 +62,5 @@ lost = (record { seat = refl; ticket = refl; place = refl; floor = refl }, refl)
 below_the_floor : IsRight options [] (answer answer_kinds.Lost (pos 0) (Some (answered (pos 0) 1 NOT_CONTROLLER))) → ⊥
 below_the_floor right = let above = right.0.floor in absurd cc
 
-nothing_decided : AreRight options (entries.Answer (answer answer_kinds.Ahead (pos 0) None) ∷ entries.Stop 4 ∷ [])
+pub nothing_decided : AreRight options (entries.Answer (answer answer_kinds.Ahead (pos 0) None) ∷ entries.Stop 4 ∷ [])
 nothing_decided = (tt, (tt, tt))

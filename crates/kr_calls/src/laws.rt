@@ -14,7 +14,6 @@ pub fn records_have_meanings()
 
 /// What fits one batch is written as it is. Where the records of a decision have a meaning, so has each item that is written of it,
 /// and no transaction stays open behind the last; so it is of each write.
-#[tactic(auto, using(crate::proofs::PackedItems::fitting_stay, crate::proofs::PackedItems::packed_stand, crate::proofs::PackedItems::writes_stand))]
 pub fn packed_items_stand()
     ensures fitting { FittingRecordsStay }
     ensures packed { PackedItemsStand }

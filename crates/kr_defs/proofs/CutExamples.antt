@@ -30,5 +30,5 @@ ten_thousand = record { some = omega arith; within = refl }
 records_10000 : cut own (items 10000) ≡ items 10000 ∷ []
 records_10000 = alone_by_recursion own (items 10000 ∷ []) (ten_thousand, tt) (tt, tt)
 
-records_10001 : cut own (items 10000 ++ 7 ∷ 8 ∷ []) ≡ items 10000 ∷ (7 ∷ 8 ∷ []) ∷ []
+pub records_10001 : cut own (items 10000 ++ 7 ∷ 8 ∷ []) ≡ items 10000 ∷ (7 ∷ 8 ∷ []) ∷ []
 records_10001 = alone_by_recursion own (items 10000 ∷ (7 ∷ 8 ∷ []) ∷ []) (ten_thousand, (record { some = omega arith; within = refl }, tt)) (refl, (tt, tt))

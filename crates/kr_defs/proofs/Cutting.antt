@@ -125,10 +125,10 @@ module _ {X : Type 0} (size : X → ℕ) where
       let parts = both (nat_le (length all) MOST_RECORDS) (nat_le (sum_by size all) MOST_BATCH_BYTES) fitting in
       let few = leb-true (length all) MOST_RECORDS parts.0 in
       let little = leb-true (sum_by size all) MOST_BATCH_BYTES parts.1 in
-      (longer batch x, (few, omega (arith, little, most)))
+      (longer batch x, few, omega (arith, little, most))
 
   alone_bounded : (bound : ℕ) (x : X) → size x ≤ bound → IsBounded bound (x ∷ [])
-  alone_bounded bound x small = let own = sum_by-cons size x [] in (omega arith, (omega arith, omega (arith, own, small)))
+  alone_bounded bound x small = let own = sum_by-cons size x [] in (omega arith, omega arith, omega (arith, own, small))
 
   bounded_behind : (bound : ℕ) → MOST_BATCH_BYTES ≤ bound → (batch xs : List X) → IsBounded bound batch → AllByRecursion (λ x. size x ≤ bound) xs → AllByRecursion (IsBounded bound) (cut_behind size batch xs)
   bounded_behind bound most batch [] is small = (is, tt)

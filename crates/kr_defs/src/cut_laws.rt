@@ -4,7 +4,6 @@ ghost use Rattle.kr_defs.specs.CutLaws.{CutAlone, CutFew, CutFirst, CutFull, Cut
 
 /// Items that are cut are in batches that joined are these items, each with some of them, within the limits and as long as it can
 /// be; no other batches of the same items are so.
-#[tactic(auto, using(crate::proofs::Cutting::joins, crate::proofs::Cutting::within, crate::proofs::Cutting::full, crate::proofs::Cutting::few, crate::proofs::Cutting::once, crate::proofs::Cutting::first, crate::proofs::Cutting::alone))]
 pub fn batches_hold_all<X>()
     ensures joins { CutJoins X }
     ensures within { CutWithin X }

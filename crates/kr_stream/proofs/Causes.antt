@@ -20,7 +20,7 @@ use Rattle.kr_stream.specs.Kinds.{number_of, longest_body, may_stand}
 use Rattle.kr_stream.specs.Frames.{IsFrame}
 use Rattle.kr_stream.specs.Reader.{Took, IsHead, IsAllowed, IsUnfinished, in_size, at_kind, in_body, IsWhole, no_size, no_place, no_fit, Cause, Stopped}
 use Rattle.kr_stream.specs.inner.Bodies.{IsBodyOf}
-use Rattle.kr_stream.specs.inner.Taken.{Short, ShortCause, shortage_fault}
+use Rattle.kr_stream.specs.inner.Taken.{Lacks, Short, ShortCause, shortage_fault}
 use Rattle.kr_stream.proofs.Parts.{frame_of, fits_none, consumes_none}
 
 -- ---- taking
@@ -86,18 +86,26 @@ module _ (opened : Bool) (a b : Option (List ℕ)) (start len : ℕ) (kind : Fra
       stopped_short opened a b c start (start + 5) n f g h t.taken t.took t.place le
       (λ rest few. in_body (number_of kind) len t.taken rest refl t.is (allowed opened kind len place short) (omega (arith, same, few))) fault s
 
-  whole_head : len ≡ 0 → IsFrame (number_of kind) (Exactly []) t.taken
-  whole_head none = frame_of (number_of kind) len [] t.taken (sym none) (record { left = t.taken; right = []; is = sym (append-nil t.taken); first = t.is; second = refl })
+  -- all of the body came, and there is no memory for it, or not all of it
+  taken_whole : (body : List ℕ) → length body ≡ len → IsWhole opened (t.taken ++ body)
+  taken_whole body same = record {
+    number = number_of kind;
+    body = body;
+    is = frame_of (number_of kind) len body (t.taken ++ body) same (record { left = t.taken; right = body; is = refl; first = t.is; second = refl });
+    allowed = allowed opened kind (length body) place (omega (arith, same, short));
+  }
 
-  -- no memory for the body
-  pub stopped_without_memory : (f g : ℕ) → Stopped opened start a b f g faults.NoMemory
-  stopped_without_memory f g = record {
-    taken = t.taken;
-    took = t.took;
-    within = omega (arith, t.place, t.within);
-    cause = elim (cases_lt 0 len) [
-      | inl some ↦ inl (in_body (number_of kind) len t.taken [] (sym (append-nil t.taken)) t.is (allowed opened kind len place short) some)
-      | inr none ↦ inr (record { number = number_of kind; body = []; is = whole_head (omega (arith, none)); allowed = allowed opened kind 0 place (omega arith) })
+  pub stopped_lacking : (c : Option (List ℕ)) (f g h : ℕ) → f ≤ g → (fault : StreamFault) → Lacks start (start + 5) len b c g h fault → Stopped opened start a c f h fault
+  stopped_lacking c f g h le (faults.Malformed p) s = stopped_in_body c len f g h refl le (faults.Malformed p) s
+  stopped_lacking c f g h le faults.ReadFault s = stopped_in_body c len f g h refl le faults.ReadFault s
+  stopped_lacking c f g h le faults.TooLong s = stopped_in_body c len f g h refl le faults.TooLong s
+  stopped_lacking c f g h le faults.NoMemory u = record {
+    taken = t.taken ++ u.taken;
+    took = consumes_more a b c t.taken u.taken t.took u.took;
+    within = (let e = length-append t.taken u.taken in let own = t.place in let low = u.within in omega (arith, e, own, low));
+    cause = elim (cases_lt (length u.taken) len) [
+      | inl some ↦ inl (in_body (number_of kind) len t.taken u.taken refl t.is (allowed opened kind len place short) some)
+      | inr all ↦ inr (taken_whole u.taken (let few = u.few in omega (arith, all, few)))
     ];
   }
 

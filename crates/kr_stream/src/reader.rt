@@ -1,12 +1,12 @@
 //! One frame after the other, from a source.
 
-ghost use Rattle.std.specs.Prelude.{◌≡◌, ◌+◌, ◌≤◌, false, true, length, IfOk, IfErr};
+ghost use Rattle.std.specs.Prelude.{◌≡◌, ◌+◌, ◌≤◌, false, true, length, IfOk, IfErr, OnOk};
 ghost use Rattle.kr_wire.specs.Grammar.{Exactly};
 ghost use Rattle.kr_defs.specs.declared.limits.TheConstants.{MOST_SESSION_BYTES};
 ghost use Rattle.kr_stream.specs.declared.stage.Stage.TheVariants as stages;
 ghost use Rattle.kr_stream.specs.Reader as reader;
 ghost use Rattle.kr_stream.specs.Reader.{IsNext, Took, Stands, Stopped, Stops};
-ghost use Rattle.kr_stream.specs.inner.Taken.{Short};
+ghost use Rattle.kr_stream.specs.inner.Taken.{Lacks, TookBehind};
 
 use crate::bodies::{BodyFault, frame_of};
 use crate::filling::take;
@@ -16,6 +16,9 @@ use crate::{Frame, StreamFault};
 use kr_base::{NoMemory, Source};
 use std::alloc::Global;
 use std::marker::Model;
+
+// The most bytes of a body that are read at once.
+const PIECE: usize = 65_536;
 
 /// A reader of frames. It keeps no byte between two calls.
 #[derive(Drop)]
@@ -129,11 +132,7 @@ fn read_frame<S: Source>(
         Err(fault) => return Err(fault),
         Ok(head) => head,
     };
-    let body = match body_room(alloc, head.len) {
-        Err(_) => return Err(StreamFault::NoMemory),
-        Ok(body) => body,
-    };
-    let body = match read_body(source, body, at) {
+    let body = match read_body(alloc, source, head.len, at) {
         Err(fault) => return Err(fault),
         Ok(body) => body,
     };
@@ -144,24 +143,106 @@ fn read_frame<S: Source>(
     }
 }
 
-// Room for a body of this length.
-fn body_room(alloc: Global, len: usize) -> Result<Vec<u8>, NoMemory>
-    ensures { IfOk result (λ body. length body.items ≡ len) }
+// The body of the frame that begins at `at`. Room is made for what comes, so that a length that is only promised takes none.
+#[tactic(auto, using(crate::proofs::BodyPieces::lacks_all))]
+fn read_body<S: Source>(
+    alloc: Global,
+    source: &mut S,
+    len: usize,
+    at: u64,
+) -> Result<Vec<u8>, StreamFault>
+    requires { at + 5 ≤ MOST_SESSION_BYTES }
+    ensures body { IfOk result (λ read. Took (Exactly read.items) (S.left source.old) (S.left source.new) (at + 5) (at + 5 + len)) }
+    ensures len { IfOk result (λ read. length read.items ≡ len) }
+    ensures lacks { IfErr result (λ fault. Lacks at (at + 5) len (S.left source.old) (S.left source.new) (S.faults source.old) (S.faults source.new) fault) }
+    ensures later { S.faults source.old ≤ S.faults source.new }
 {
-    let body = vec![in alloc; 0; len]?;
+    let mut body = match read_piece(alloc, source, len.min(PIECE), at, at + 5) {
+        Err(fault) => return Err(fault),
+        Ok(first) => first,
+    };
+    while body.len() < len {
+        let more = (len - body.len()).min(PIECE);
+        let place = at + 5 + body.len() as u64;
+        match read_behind(alloc, source, &mut body, more, at, place) {
+            Err(fault) => return Err(fault),
+            Ok(()) => {}
+        }
+    }
     Ok(body)
 }
 
-// The body of the frame that begins at `at`, as long as the vector.
-fn read_body<S: Source>(source: &mut S, mut body: Vec<u8>, at: u64) -> Result<Vec<u8>, StreamFault>
-    requires { at + 5 ≤ MOST_SESSION_BYTES }
-    ensures body { IfOk result (λ read. Took (Exactly read.items) (S.left source.old) (S.left source.new) (at + 5) (at + 5 + length body.items)) }
-    ensures len { IfOk result (λ read. length read.items ≡ length body.items) }
-    ensures short { IfErr result (λ fault. Short at (at + 5) (length body.items) (S.left source.old) (S.left source.new) (S.faults source.old) (S.faults source.new) fault) }
+// So many more bytes of a body, behind those that came.
+#[tactic(auto, using(crate::proofs::BodyPieces::piece_taken, crate::proofs::BodyPieces::piece_grown))]
+fn read_behind<S: Source>(
+    alloc: Global,
+    source: &mut S,
+    body: &mut Vec<u8>,
+    more: usize,
+    start: u64,
+    at: u64,
+) -> Result<(), StreamFault>
+    requires { at ≤ MOST_SESSION_BYTES }
+    ensures behind { OnOk result (TookBehind (S.left source.old) (S.left source.new) at more body.old.items body.new.items) }
+    ensures lacks { IfErr result (λ fault. Lacks start at more (S.left source.old) (S.left source.new) (S.faults source.old) (S.faults source.new) fault) }
     ensures later { S.faults source.old ≤ S.faults source.new }
 {
-    match take(source, body.as_mut_slice(), at, at + 5) {
+    let piece = match read_piece(alloc, source, more, start, at) {
+        Err(fault) => return Err(fault),
+        Ok(piece) => piece,
+    };
+    match body.extend_from_slice(piece.as_slice()) {
+        Err(_) => Err(StreamFault::NoMemory),
+        Ok(()) => Ok(()),
+    }
+}
+
+// So many bytes of the frame that begins at `start`.
+#[tactic(auto, using(crate::proofs::BodyPieces::none_taken))]
+fn read_piece<S: Source>(
+    alloc: Global,
+    source: &mut S,
+    len: usize,
+    start: u64,
+    at: u64,
+) -> Result<Vec<u8>, StreamFault>
+    requires { at ≤ MOST_SESSION_BYTES }
+    ensures piece { IfOk result (λ read. Took (Exactly read.items) (S.left source.old) (S.left source.new) at (at + len)) }
+    ensures len { IfOk result (λ read. length read.items ≡ len) }
+    ensures lacks { IfErr result (λ fault. Lacks start at len (S.left source.old) (S.left source.new) (S.faults source.old) (S.faults source.new) fault) }
+    ensures later { S.faults source.old ≤ S.faults source.new }
+{
+    let piece = match room_for(alloc, len) {
+        Err(_) => return Err(StreamFault::NoMemory),
+        Ok(piece) => piece,
+    };
+    fill_piece(source, piece, start, at)
+}
+
+// Room for so many bytes.
+fn room_for(alloc: Global, len: usize) -> Result<Vec<u8>, NoMemory>
+    ensures { IfOk result (λ piece. length piece.items ≡ len) }
+{
+    let piece = vec![in alloc; 0; len]?;
+    Ok(piece)
+}
+
+// Bytes of the frame that begins at `start`, as many as the vector has.
+#[tactic(auto, using(crate::proofs::BodyPieces::short_lacks))]
+fn fill_piece<S: Source>(
+    source: &mut S,
+    mut piece: Vec<u8>,
+    start: u64,
+    at: u64,
+) -> Result<Vec<u8>, StreamFault>
+    requires { at ≤ MOST_SESSION_BYTES }
+    ensures piece { IfOk result (λ read. Took (Exactly read.items) (S.left source.old) (S.left source.new) at (at + length piece.items)) }
+    ensures len { IfOk result (λ read. length read.items ≡ length piece.items) }
+    ensures lacks { IfErr result (λ fault. Lacks start at (length piece.items) (S.left source.old) (S.left source.new) (S.faults source.old) (S.faults source.new) fault) }
+    ensures later { S.faults source.old ≤ S.faults source.new }
+{
+    match take(source, piece.as_mut_slice(), start, at) {
         Err(fault) => Err(fault),
-        Ok(()) => Ok(body),
+        Ok(()) => Ok(piece),
     }
 }

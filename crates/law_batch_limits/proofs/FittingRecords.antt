@@ -106,9 +106,9 @@ each_few (item ∷ items) all = (all.0.few, each_few items all.1)
 one_fits : (batch : List Item) → IsBounded item_bytes MOST_REQUEST_BYTES batch → AreLight batch → FitsBatch batch
 one_fits batch is all =
     let same = same_size batch all in
-    let little = is.1.1 in record {
+    let little = is.2 in record {
       some = is.0;
-      few = is.1.0;
+      few = is.1;
       each = All-from_recursion IsWritable batch (each_writable batch all);
       small = omega (arith, same, little);
     }

@@ -1,7 +1,8 @@
 -- Bytes that are taken from a source, of a frame that begins at some place.
-use Rattle.std.specs.Prelude.{◌≡◌, ℕ, ◌+◌, ◌<◌, List, length, Option}
+use Rattle.std.specs.Prelude.{◌≡◌, ℕ, ◌+◌, ◌<◌, ◌≤◌, List, ◌++◌, length, Option}
 use Rattle.std.specs.Io.KnownBytes.{Consumes, IsAtEnd}
 use Rattle.kr_base.specs.Causes.{Rose}
+use Rattle.kr_wire.specs.Laws.{IsBytes}
 use Rattle.kr_defs.specs.declared.limits.TheConstants.{MOST_SESSION_BYTES}
 use Rattle.kr_intake.specs.declared.taking.Shortage.{Shortage}
 use Rattle.kr_intake.specs.declared.taking.Shortage.TheVariants as shortages
@@ -27,3 +28,24 @@ pub record Short (start at most : ℕ) (left left' : Option (List ℕ)) (count c
   pub took : Consumes left left' taken
   pub few : length taken < most
   pub cause : ShortCause start (at + length taken) left' count count' fault
+
+-- no more than so many bytes were taken from a place on
+pub record UpTo (at most : ℕ) (left left' : Option (List ℕ)) : Type 0 where
+  pub taken : List ℕ
+  pub took : Consumes left left' taken
+  pub few : length taken ≤ most
+  pub within : at + length taken ≤ MOST_SESSION_BYTES
+
+-- why so many bytes from a place on aren't there: they are too few, or there is no memory for them
+abbrev pub Lacks : ℕ → ℕ → ℕ → Option (List ℕ) → Option (List ℕ) → ℕ → ℕ → StreamFault → Type 0
+Lacks start at most left left' count count' faults.NoMemory = UpTo at most left left'
+Lacks start at most left left' count count' fault = Short start at most left left' count count' fault
+
+-- so many bytes were taken from a place on, and stand behind others
+pub record TookBehind (left left' : Option (List ℕ)) (at more : ℕ) (bytes bytes' : List ℕ) : Type 0 where
+  pub taken : List ℕ
+  pub took : Consumes left left' taken
+  pub known : IsBytes taken
+  pub long : length taken ≡ more
+  pub within : at + more ≤ MOST_SESSION_BYTES
+  pub grown : bytes' ≡ bytes ++ taken
