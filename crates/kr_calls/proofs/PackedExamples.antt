@@ -6,10 +6,10 @@ use Rattle.kr_defs.specs.declared.record.Item.TheVariants as items
 use Rattle.kr_defs.specs.declared.record.Record.{Record}
 use Rattle.kr_defs.specs.declared.record.Record.TheVariants as kinds
 use Rattle.kr_defs.specs.Cut.{cut}
-use Rattle.kr_defs.specs.CutLaws.{IsBatch}
+use Rattle.kr_defs.specs.CutLaws.{IsOneBatch}
 use Rattle.kr_defs.specs.Sizes.{value_bytes}
 use Rattle.kr_defs.proofs.Cutting.{alone_by_recursion}
-use Rattle.kr_calls.specs.Packed.{batches_of, item_bytes, packed, place_taken}
+use Rattle.kr_calls.specs.Packed.{item_batches, item_bytes, packed, place_taken}
 
 -- so many records, each with the place where they are decided, of 16 bytes
 abbrev fences : ℕ → ℤ → List Record
@@ -52,15 +52,15 @@ first_batch = begun ∷ replicate 9999 (fenced (pos 13))
 abbrev last_batch : List Item
 last_batch = fenced (pos 13) ∷ fenced (pos 13) ∷ ended ∷ []
 
-first_is : IsBatch item_bytes first_batch
+first_is : IsOneBatch item_bytes first_batch
 unfolding value_bytes
 first_is = record { some = omega arith; within = refl }
 
-last_is : IsBatch item_bytes last_batch
+last_is : IsOneBatch item_bytes last_batch
 unfolding value_bytes
 last_is = record { some = omega arith; within = refl }
 
 -- the begin counts among the 10,000 of the first batch, and the end is in the last
-pub batches_10001 : batches_of (packed (fences 10001) (pos 12)) ≡ first_batch ∷ last_batch ∷ []
+pub batches_10001 : item_batches (packed (fences 10001) (pos 12)) ≡ first_batch ∷ last_batch ∷ []
 unfolding packed
 batches_10001 = alone_by_recursion item_bytes (first_batch ∷ last_batch ∷ []) (first_is, (last_is, tt)) (refl, (tt, tt))

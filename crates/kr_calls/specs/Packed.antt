@@ -36,8 +36,8 @@ item_bytes items.Control = 0
 item_bytes (items.Record r) = value_bytes r
 
 -- the batches in which items are written
-abbrev pub batches_of : List Item → List (List Item)
-batches_of items = cut item_bytes items
+abbrev pub item_batches : List Item → List (List Item)
+item_batches items = cut item_bytes items
 
 -- ---- of a write
 

@@ -1,7 +1,7 @@
 -- Items that are cut into batches, by computation: the limit of bytes, and that of records, on both sides.
 use Rattle.std.proofs.Common.{◌≡◌, refl, ℕ, List, [], ◌∷◌, ◌++◌, replicate, arith}
 use Rattle.kr_defs.specs.Cut.{cut}
-use Rattle.kr_defs.specs.CutLaws.{IsBatch}
+use Rattle.kr_defs.specs.CutLaws.{IsOneBatch}
 use Rattle.kr_defs.proofs.Cutting.{alone_by_recursion}
 
 abbrev own : ℕ → ℕ
@@ -24,7 +24,7 @@ too_large = refl
 abbrev items : ℕ → List ℕ
 items n = replicate n 0
 
-ten_thousand : IsBatch own (items 10000)
+ten_thousand : IsOneBatch own (items 10000)
 ten_thousand = record { some = omega arith; within = refl }
 
 records_10000 : cut own (items 10000) ≡ items 10000 ∷ []

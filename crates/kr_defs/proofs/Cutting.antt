@@ -9,7 +9,7 @@ use Rattle.std.proofs.lemmas.Bool.{leb-true}
 use Rattle.std.proofs.lemmas.Bool.Decides.{nat_tests}
 use Rattle.kr_defs.specs.declared.limits.TheConstants.{MOST_BATCH_BYTES, MOST_RECORDS}
 use Rattle.kr_defs.specs.Cut.{cut, cut_behind, is_one_batch}
-use Rattle.kr_defs.specs.CutLaws.{IsBatch, NoMore, AreFull, AreSmall, joined}
+use Rattle.kr_defs.specs.CutLaws.{IsOneBatch, NoMore, AreFull, AreSmall, items_in}
 use Rattle.kr_defs.proofs.Tests.{both}
 
 module _ {X : Type 0} (size : X → ℕ) where
@@ -26,13 +26,13 @@ module _ {X : Type 0} (size : X → ℕ) where
       ] in
       either (is_one_batch size (batch ++ x ∷ [])) refl
 
-  pub joined_behind : (batch xs : List X) → joined (cut_behind size batch xs) ≡ batch ++ xs
+  pub joined_behind : (batch xs : List X) → items_in (cut_behind size batch xs) ≡ batch ++ xs
   joined_behind batch [] = refl
-  joined_behind batch (x ∷ xs) = by_test batch x xs (λ bs. joined bs ≡ batch ++ x ∷ xs)
+  joined_behind batch (x ∷ xs) = by_test batch x xs (λ bs. items_in bs ≡ batch ++ x ∷ xs)
       (λ _. joined_behind (batch ++ x ∷ []) xs ∙ append_assoc batch (x ∷ []) xs)
       (λ _. ap (λ ys. batch ++ ys) (joined_behind (x ∷ []) xs))
 
-  pub joins : (items : List X) → joined (cut size items) ≡ items
+  pub joins : (items : List X) → items_in (cut size items) ≡ items
   joins [] = refl
   joins (x ∷ xs) = joined_behind (x ∷ []) xs
 
@@ -42,18 +42,18 @@ module _ {X : Type 0} (size : X → ℕ) where
   alone_small : (x : X) → size x ≤ MOST_BATCH_BYTES → is_one_batch size (x ∷ []) ≡ true
   alone_small x small = grind (arith, nat_tests)
 
-  within_behind : (batch xs : List X) → IsBatch size batch → AllByRecursion (λ x. size x ≤ MOST_BATCH_BYTES) xs → AllByRecursion (IsBatch size) (cut_behind size batch xs)
+  within_behind : (batch xs : List X) → IsOneBatch size batch → AllByRecursion (λ x. size x ≤ MOST_BATCH_BYTES) xs → AllByRecursion (IsOneBatch size) (cut_behind size batch xs)
   within_behind batch [] is small = (is, tt)
-  within_behind batch (x ∷ xs) is small = by_test batch x xs (AllByRecursion (IsBatch size))
+  within_behind batch (x ∷ xs) is small = by_test batch x xs (AllByRecursion (IsOneBatch size))
       (λ fitting. within_behind (batch ++ x ∷ []) xs (record { some = longer batch x; within = fitting }) small.1)
       (λ over. (is, within_behind (x ∷ []) xs (record { some = omega arith; within = alone_small x small.0 }) small.1))
 
-  within_by_recursion : (items : List X) → AllByRecursion (λ x. size x ≤ MOST_BATCH_BYTES) items → AllByRecursion (IsBatch size) (cut size items)
+  within_by_recursion : (items : List X) → AllByRecursion (λ x. size x ≤ MOST_BATCH_BYTES) items → AllByRecursion (IsOneBatch size) (cut size items)
   within_by_recursion [] small = tt
   within_by_recursion (x ∷ xs) small = within_behind (x ∷ []) xs (record { some = omega arith; within = alone_small x small.0 }) small.1
 
-  pub within : (items : List X) → AreSmall size items → All (IsBatch size) (cut size items)
-  within items small = All-from_recursion (IsBatch size) (cut size items) (within_by_recursion items (recursion_from_All (λ x. size x ≤ MOST_BATCH_BYTES) items small))
+  pub within : (items : List X) → AreSmall size items → All (IsOneBatch size) (cut size items)
+  within items small = All-from_recursion (IsOneBatch size) (cut size items) (within_by_recursion items (recursion_from_All (λ x. size x ≤ MOST_BATCH_BYTES) items small))
 
   full_behind : (batch xs : List X) → AreFull size (cut_behind size batch xs)
   full_behind batch [] = (tt, tt)
@@ -99,20 +99,20 @@ module _ {X : Type 0} (size : X → ℕ) where
       let here : cut_behind size front (x ∷ (rest ++ tail)) ≡ cut_behind size (front ++ x ∷ []) (rest ++ tail) = rw one in
       here ∙ (on ∙ ap (λ (f : List X). f ∷ cut size tail) same)
 
-  pub first : (batch rest : List X) → IsBatch size batch → NoMore size batch rest → cut size (batch ++ rest) ≡ batch ∷ cut size rest
+  pub first : (batch rest : List X) → IsOneBatch size batch → NoMore size batch rest → cut size (batch ++ rest) ≡ batch ∷ cut size rest
   first [] rest is over = absurd (let some = is.some in omega (arith, some))
   first (x ∷ xs) rest is over = first_behind (x ∷ []) xs rest is.within over
 
-  pub once : (batch : List X) → IsBatch size batch → cut size batch ≡ batch ∷ []
+  pub once : (batch : List X) → IsOneBatch size batch → cut size batch ≡ batch ∷ []
   once batch is = ap (cut size) (sym (append-nil batch)) ∙ first batch [] is tt
 
-  pub alone_by_recursion : (batches : List (List X)) → AllByRecursion (IsBatch size) batches → AreFull size batches → cut size (joined batches) ≡ batches
+  pub alone_by_recursion : (batches : List (List X)) → AllByRecursion (IsOneBatch size) batches → AreFull size batches → cut size (items_in batches) ≡ batches
   alone_by_recursion [] are are_full = refl
   alone_by_recursion (batch ∷ batches) are are_full =
-      first batch (joined batches) are.0 are_full.0 ∙ ap (λ (bs : List (List X)). batch ∷ bs) (alone_by_recursion batches are.1 are_full.1)
+      first batch (items_in batches) are.0 are_full.0 ∙ ap (λ (bs : List (List X)). batch ∷ bs) (alone_by_recursion batches are.1 are_full.1)
 
-  pub alone : (batches : List (List X)) → All (IsBatch size) batches → AreFull size batches → cut size (joined batches) ≡ batches
-  alone batches are are_full = alone_by_recursion batches (recursion_from_All (IsBatch size) batches are) are_full
+  pub alone : (batches : List (List X)) → All (IsOneBatch size) batches → AreFull size batches → cut size (items_in batches) ≡ batches
+  alone batches are are_full = alone_by_recursion batches (recursion_from_All (IsOneBatch size) batches are) are_full
 
   -- ---- what holds of each batch where items may be larger than a batch
 

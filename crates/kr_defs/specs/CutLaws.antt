@@ -4,12 +4,12 @@ use Rattle.kr_defs.specs.declared.limits.TheConstants.{MOST_BATCH_BYTES}
 use Rattle.kr_defs.specs.Cut.{cut, is_one_batch}
 
 -- the items of batches, in order
-abbrev pub joined : {X : Type 0} → List (List X) → List X
-joined [] = []
-joined (batch ∷ batches) = batch ++ joined batches
+abbrev pub items_in : {X : Type 0} → List (List X) → List X
+items_in [] = []
+items_in (batch ∷ batches) = batch ++ items_in batches
 
 -- some items, and no limit of a batch is passed
-pub record IsBatch {X : Type 0} (size : X → ℕ) (batch : List X) : Type 0 where
+pub record IsOneBatch {X : Type 0} (size : X → ℕ) (batch : List X) : Type 0 where
   pub some : 1 ≤ length batch
   pub within : is_one_batch size batch ≡ true
 
@@ -21,19 +21,19 @@ NoMore size batch (x ∷ xs) = is_one_batch size (batch ++ x ∷ []) ≡ false
 -- each batch is as long as it can be
 abbrev pub AreFull : {X : Type 0} → (X → ℕ) → List (List X) → Type 0
 AreFull size [] = Unit {0}
-AreFull size (batch ∷ batches) = NoMore size batch (joined batches) × AreFull size batches
+AreFull size (batch ∷ batches) = NoMore size batch (items_in batches) × AreFull size batches
 
 -- each item alone is no more than a batch takes
 abbrev pub AreSmall : {X : Type 0} → (X → ℕ) → List X → Type 0
 AreSmall size items = All (λ x. size x ≤ MOST_BATCH_BYTES) items
 
--- the batches joined are the items
+-- the batches items_in are the items
 abbrev pub CutJoins : Type 0 → Type 0
-CutJoins X = (size : X → ℕ) (items : List X) → joined (cut size items) ≡ items
+CutJoins X = (size : X → ℕ) (items : List X) → items_in (cut size items) ≡ items
 
 -- each has some items, and passes no limit
 abbrev pub CutWithin : Type 0 → Type 0
-CutWithin X = (size : X → ℕ) (items : List X) → AreSmall size items → All (IsBatch size) (cut size items)
+CutWithin X = (size : X → ℕ) (items : List X) → AreSmall size items → All (IsOneBatch size) (cut size items)
 
 abbrev pub CutFull : Type 0 → Type 0
 CutFull X = (size : X → ℕ) (items : List X) → AreFull size (cut size items)
@@ -44,12 +44,12 @@ CutFew X = (size : X → ℕ) (items : List X) → length (cut size items) ≤ l
 
 -- what fits one batch is one
 abbrev pub CutOnce : Type 0 → Type 0
-CutOnce X = (size : X → ℕ) (batch : List X) → IsBatch size batch → cut size batch ≡ batch ∷ []
+CutOnce X = (size : X → ℕ) (batch : List X) → IsOneBatch size batch → cut size batch ≡ batch ∷ []
 
 -- a batch in front that is as long as it can be
 abbrev pub CutFirst : Type 0 → Type 0
-CutFirst X = (size : X → ℕ) (batch rest : List X) → IsBatch size batch → NoMore size batch rest → cut size (batch ++ rest) ≡ batch ∷ cut size rest
+CutFirst X = (size : X → ℕ) (batch rest : List X) → IsOneBatch size batch → NoMore size batch rest → cut size (batch ++ rest) ≡ batch ∷ cut size rest
 
 -- no other batches of these items are within the limits and as long as they can be
 abbrev pub CutAlone : Type 0 → Type 0
-CutAlone X = (size : X → ℕ) (batches : List (List X)) → All (IsBatch size) batches → AreFull size batches → cut size (joined batches) ≡ batches
+CutAlone X = (size : X → ℕ) (batches : List (List X)) → All (IsOneBatch size) batches → AreFull size batches → cut size (items_in batches) ≡ batches

@@ -69,7 +69,7 @@ module _ (e after : Core) (broker : ℤ) (f : Fences e after broker) (s : State)
         ∙ ap (λ i. e.fresh ++ item_entries (pos (tip_of s)) (as_items (fencing_of e.options i broker))) (sym (same_image e s writes k)));
   }
 
-  pub fence_stands : IsValid e.images.tip → IsSome s.world.leading → tip_of s + 10000 ≤ unsigned_abs PLACES_END → IsEngine after (fence e.options s broker) writes
+  pub fence_stands : IsValid e.images.tip → IsSome s.world.leading → tip_of s + 400002 ≤ unsigned_abs PLACES_END → IsEngine after (fence e.options s broker) writes
   fence_stands valid leads room =
       let stays = fence_stays e after broker f in
       let few = f.writes.few in
@@ -120,7 +120,7 @@ pub stays_itself : (e : Core) → Stays e e
 stays_itself e = record { options = refl; leading = refl; closed = refl; held = refl; refusal = refl }
 
 pub all_fenced : (ids : List ℤ) (e after : Core) → FencesAll e after ids → (s : State) (writes : List Write) → IsEngine e s writes → IsValid e.images.tip → IsSome s.world.leading
-    → tip_of s + 10000 * length ids ≤ unsigned_abs PLACES_END → AllFenced e after s writes ids
+    → tip_of s + 400002 * length ids ≤ unsigned_abs PLACES_END → AllFenced e after s writes ids
 all_fenced [] e after is s writes k valid leads room =
     subst (λ (a : Core). AllFenced e a s writes []) (sym is) (record { stands = k; outputs = sym (append-nil e.given); gains = gains_none e.fresh s.world.log; stays = stays_itself e })
 all_fenced (broker ∷ ids) e after (between, f, rest) s writes k valid leads room =

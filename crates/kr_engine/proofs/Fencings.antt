@@ -159,8 +159,8 @@ module _ (e : Core) (brokers : List ℤ) (broker : ℤ) (others : List ℤ) (is 
   then_indexed listed between f index =
       indexed_by listed e.options.minimum e.images.tip between.images.tip broker (entries.get int_cmp e.images.tip.brokers broker) one_valid.tip refl f.writes.meaning index
 
-  then_room : (s : State) (writes : List Write) → IsEngine e s writes → tip_of s + 10000 * length (broker ∷ others) ≤ unsigned_abs PLACES_END
-  then_room s writes k = subst (λ t. unsigned_abs t + 10000 * length (broker ∷ others) ≤ unsigned_abs PLACES_END) k.tip own_can.room
+  then_room : (s : State) (writes : List Write) → IsEngine e s writes → tip_of s + 400002 * length (broker ∷ others) ≤ unsigned_abs PLACES_END
+  then_room s writes k = subst (λ t. unsigned_abs t + 400002 * length (broker ∷ others) ≤ unsigned_abs PLACES_END) k.tip own_can.room
 
   can_next : (others' : List ℤ) → others ≡ others' → (between : Core) → Fences e between broker → AreValid between.images → CanFenceAll between others'
   can_next [] same between f valid = tt
@@ -311,7 +311,7 @@ can_lapse e now sound valid are free = by_leading sound.state.world.leading refl
           sound = record { state = at_time_of sound.state (events.Tick now); writes = sound.writes; stands = timed_engine e (events.Tick now) sound.state sound.writes k };
           valid = valid;
           leads = subst (λ (l : Option ℤ). IsSome l) (sym k.leading) some;
-          room = subst (λ t. unsigned_abs t + 10000 * length (lapsed_contacts before) ≤ unsigned_abs PLACES_END) (sym k.tip)
+          room = subst (λ t. unsigned_abs t + 400002 * length (lapsed_contacts before) ≤ unsigned_abs PLACES_END) (sym k.tip)
               (near_enough (tip_of sound.state) (length (lapsed_contacts before)) (ap is_far (sym k.tip) ∙ near) few);
         })
 

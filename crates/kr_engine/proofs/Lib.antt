@@ -6,6 +6,7 @@ pub mod CommitSteps
 pub mod EventBatches
 pub mod FencingSteps
 pub mod Fencings
+pub mod FirstBatches
 pub mod FirstContacts
 pub mod FirstReasons
 pub mod ImageSteps

@@ -65,7 +65,7 @@ use Rattle.kr_model.proofs.Places.{near_enough}
 same_ok : (r : Result Image Ill) (x y : Image) → r ≡ Ok x → r ≡ Ok y → x ≡ y
 same_ok r x y is also = ap (λ (r : Result Image Ill). result_unwrap_or r x) (sym is ∙ also)
 
-room_for_one : (n m : ℕ) → is_far (pos n) ≡ false → m ≤ 10000 → n + m ≤ unsigned_abs PLACES_END
+room_for_one : (n m : ℕ) → is_far (pos n) ≡ false → m ≤ 400002 → n + m ≤ unsigned_abs PLACES_END
 room_for_one n m near few = let room = near_enough n 1 near (omega arith) in omega (arith, few, room)
 
 -- the engine at the time of the request, and behind the write

@@ -43,7 +43,7 @@ taken_fewer n cs = let long = length-take n cs in omega (arith, long)
 front_fewer : (p : Contact → Bool) (cs : List Contact) → length (take_while p cs) ≤ length cs
 front_fewer p cs = taken_fewer _ cs
 
-pub few_lapsed : (h : Heartbeats) (image : Image) (limit : ℤ) → AreHeartbeats h → HearsOf h image → IsValid image → length (expired h limit) ≤ 1000
+pub few_lapsed : (h : Heartbeats) (image : Image) (limit : ℤ) → AreHeartbeats h → HearsOf h image → IsValid image → length (expired h limit) ≤ 5000
 few_lapsed h image limit are hears valid =
     let front = front_fewer (λ c. int_le c.time limit) h.contacts in
     let one = length-map (take_while (λ (c : Contact). int_le c.time limit) h.contacts) (λ c. c.broker) in
@@ -53,7 +53,7 @@ few_lapsed h image limit are hears valid =
     let unfenced = filter (λ (e : ℤ × Broker). not e.1.fenced) image.brokers in
     let four = length-map unfenced (λ (e : ℤ × Broker). e.0) in
     let five : length unfenced ≤ length image.brokers = rw length-filter (count_by-le-length (λ (e : ℤ × Broker). not e.1.fenced) image.brokers) in
-    let most : length image.brokers ≤ 1000 = valid.brokers.few in
+    let most : length image.brokers ≤ 5000 = valid.brokers.few in
     omega (arith, front, one, two, three, four, five, most)
 
 -- ---- the step

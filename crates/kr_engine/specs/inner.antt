@@ -2,6 +2,7 @@ pub mod Append
 pub mod Batch
 pub mod Changes
 pub mod Commit
+pub mod Cut
 pub mod Image
 pub mod Lead
 pub mod Load

@@ -6,6 +6,7 @@ mod apply;
 mod batch;
 mod commit;
 mod context;
+mod cut;
 mod decide;
 mod engine;
 mod entries;

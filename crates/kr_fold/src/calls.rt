@@ -149,7 +149,7 @@ fn read_all<S: Source>(alloc: Global, input: &mut S) -> Result<Vec<u8>, ToolFaul
 /// input is read, and that by one put.
 ///
 /// It answers Malformed at the first byte of the batch at fault, at 0 where that is the head, at the end of the input
-/// where batches are missing, and at 67,108,864 where there are more bytes than that, whatever stands before; ReadFault
+/// where batches are missing, and at 1,073,741,824 where there are more bytes than that, whatever stands before; ReadFault
 /// or WriteFault where a read or the write failed; NoMemory where memory ran out.
 pub fn dump<S: Source, K: Sink>(
     alloc: Global,

@@ -13,7 +13,7 @@ use Rattle.kr_calls.specs.declared.events.Event.{Event}
 use Rattle.kr_calls.specs.declared.events.Reason.{Reason}
 use Rattle.kr_calls.specs.declared.calls.Ask.TheVariants as asks
 use Rattle.kr_calls.specs.declared.events.Event.TheVariants as events
-use Rattle.kr_calls.specs.Packed.{batches_of}
+use Rattle.kr_calls.specs.Packed.{item_batches}
 use Rattle.kr_defs.specs.declared.ill.Ill.{Ill}
 use Rattle.kr_defs.specs.declared.options.Options.{Options}
 use Rattle.kr_defs.specs.declared.record.Item.{Item}
@@ -33,7 +33,7 @@ use Rattle.kr_model.specs.Engine.{Rise}
 use Rattle.kr_model.specs.Events.{with_next_number, happens, outcome, at_time_of}
 use Rattle.kr_model.specs.Lead.{after_lead, giving_up, in_lead, lead, may_begin_at, taking_over, up_to}
 use Rattle.kr_model.specs.Lost.{after_lost, lost}
-use Rattle.kr_model.specs.World.{closed_of, leads_in, State, World, is_far, state_of_tip, tip_of, with_batch, with_batches, log_with}
+use Rattle.kr_model.specs.World.{closed_of, leads_in, State, World, is_far, state_of_tip, tip_of, with_batch, with_all_batches, log_with}
 use Rattle.kr_model.specs.Outputs.{is_open_in}
 use Rattle.kr_model.specs.Reasons as reasons
 use Rattle.kr_model.specs.Batch.{batch_or, end_of, batch, take_batch, after_batch, unless_ill}
@@ -65,9 +65,9 @@ batch_leaves w items =
 leaves_then : (u v w : World) → Leaves u v → Leaves v w → Leaves u w
 leaves_then u v w a b = record { leading = b.leading ∙ a.leading; greatest = b.greatest ∙ a.greatest; committed = b.committed ∙ a.committed }
 
-pub batches_leave : (batches : List (List Item)) (w : World) → Leaves w (with_batches w batches)
+pub batches_leave : (batches : List (List Item)) (w : World) → Leaves w (with_all_batches w batches)
 batches_leave [] w = leaves_itself w
-batches_leave (batch ∷ batches) w = leaves_then w (with_batch w batch) (with_batches w (batch ∷ batches)) (batch_leaves w batch) (batches_leave batches (with_batch w batch))
+batches_leave (batch ∷ batches) w = leaves_then w (with_batch w batch) (with_all_batches w (batch ∷ batches)) (batch_leaves w batch) (batches_leave batches (with_batch w batch))
 
 -- ---- what stays closed
 
@@ -83,11 +83,11 @@ closed_with w items low = elim (length items == 0) as (λ b. closed_of (cond b w
   | false ↦ ap (λ o. unwrap_or o w.committed) (open_written_below w.log items w.committed low)
 ]
 
-low_with_all : (batches : List (List Item)) (w : World) → w.committed ≤ tip w.log → (with_batches w batches).committed ≤ tip (with_batches w batches).log
+low_with_all : (batches : List (List Item)) (w : World) → w.committed ≤ tip w.log → (with_all_batches w batches).committed ≤ tip (with_all_batches w batches).log
 low_with_all [] w low = low
 low_with_all (batch ∷ batches) w low = low_with_all batches (with_batch w batch) (low_with w batch low)
 
-pub closed_with_all : (batches : List (List Item)) (w : World) → w.committed ≤ tip w.log → closed_of (with_batches w batches) ≡ closed_of w
+pub closed_with_all : (batches : List (List Item)) (w : World) → w.committed ≤ tip w.log → closed_of (with_all_batches w batches) ≡ closed_of w
 closed_with_all [] w low = refl
 closed_with_all (batch ∷ batches) w low = closed_with_all batches (with_batch w batch) (low_with w batch low) ∙ closed_with w batch low
 
@@ -95,7 +95,7 @@ closed_with_all (batch ∷ batches) w low = closed_with_all batches (with_batch 
 fenced_closed : (options : Options) (s : State) (brokers : List ℤ) → s.world.committed ≤ tip_of s → closed_of (fence_all options s brokers).world ≡ closed_of s.world
 fenced_closed options s [] low = refl
 fenced_closed options s (broker ∷ brokers) low =
-    let batches = batches_of (fencing_items options s broker) in
+    let batches = item_batches (fencing_items options s broker) in
     fenced_closed options (fence options s broker) brokers (low_with_all batches s.world low) ∙ closed_with_all batches s.world low
 
 -- ---- what an event leaves of a world
@@ -170,10 +170,10 @@ fenced_leaves : (options : Options) (s : State) (brokers : List ℤ) → Leaves 
 fenced_leaves options s [] = leaves_itself s.world
 fenced_leaves options s (broker ∷ brokers) =
     leaves_then s.world (fence options s broker).world (fence_all options s (broker ∷ brokers)).world
-    (batches_leave (batches_of (fencing_items options s broker)) s.world) (fenced_leaves options (fence options s broker) brokers)
+    (batches_leave (item_batches (fencing_items options s broker)) s.world) (fenced_leaves options (fence options s broker) brokers)
 
 written_leaves : (options : Options) (s : State) (request : Request) → Leaves s.world (after_write options s request).world
-written_leaves options s request = batches_leave (batches_of (write_items options s request)) s.world
+written_leaves options s request = batches_leave (item_batches (write_items options s request)) s.world
 
 asked_leaves : (options : Options) (s : State) (ask : Ask) → Leaves s.world (after_ask options s ask).world
 asked_leaves options s (asks.Call call) = after_leaves (is_decided s.world (asks.Call call)) s (after_write options s call.request) (written_leaves options s call.request)
@@ -184,7 +184,7 @@ asked_leaves options s (asks.Call call) = after_leaves (is_decided s.world (asks
 asked_leaves options s (asks.Bare correlation fault) = leaves_itself s.world
 
 asked_closed : (options : Options) (s : State) (ask : Ask) → s.world.committed ≤ tip_of s → closed_of (after_ask options s ask).world ≡ closed_of s.world
-asked_closed options s (asks.Call call) low = closed_if (is_decided s.world (asks.Call call)) s (after_write options s call.request) (closed_with_all (batches_of (write_items options s call.request)) s.world low)
+asked_closed options s (asks.Call call) low = closed_if (is_decided s.world (asks.Call call)) s (after_write options s call.request) (closed_with_all (item_batches (write_items options s call.request)) s.world low)
   where
     closed_if : (b : Bool) (s after : State) → closed_of after.world ≡ closed_of s.world → closed_of (cond b after s).world ≡ closed_of s.world
     closed_if true s after same = same

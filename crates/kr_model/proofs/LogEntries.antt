@@ -10,13 +10,13 @@ use Rattle.kr_calls.specs.declared.events.Entry.{Entry}
 use Rattle.kr_calls.specs.declared.events.Entry.TheVariants as entries
 use Rattle.kr_defs.specs.declared.limits.TheConstants.{MOST_RECORDS, PLACES_END}
 use Rattle.kr_defs.specs.declared.record.Item.{Item}
-use Rattle.kr_defs.specs.CutLaws.{joined}
+use Rattle.kr_defs.specs.CutLaws.{items_in}
 use Rattle.kr_defs.specs.Log.{Log, tip}
 use Rattle.kr_defs.proofs.Cutting.{joins}
-use Rattle.kr_calls.specs.Packed.{batches_of, item_bytes}
+use Rattle.kr_calls.specs.Packed.{item_batches, item_bytes}
 use Rattle.kr_model.specs.Entries.{items_from, item_entries}
 use Rattle.kr_model.specs.Lost.{cut}
-use Rattle.kr_model.specs.World.{World, with_batch, with_batches, log_with}
+use Rattle.kr_model.specs.World.{World, with_batch, with_all_batches, log_with}
 use Rattle.kr_model.proofs.Logs.{tip_written}
 
 -- ---- a log behind a place
@@ -112,13 +112,13 @@ batch_written w (item ∷ items) =
 written_then : (log : Log) (xs ys : List Item) → log_with (log_with log xs) ys ≡ log_with log (xs ++ ys)
 written_then log xs ys = ap (λ (is : List Item). record log { items = is }) (append_assoc log.items xs ys)
 
-pub batches_written : (batches : List (List Item)) (w : World) → (with_batches w batches).log ≡ log_with w.log (joined batches)
+pub batches_written : (batches : List (List Item)) (w : World) → (with_all_batches w batches).log ≡ log_with w.log (items_in batches)
 batches_written [] w = ap (λ (is : List Item). record w.log { items = is }) (sym (append-nil w.log.items))
 batches_written (batch ∷ batches) w =
     batches_written batches (with_batch w batch)
-    ∙ (ap (λ (l : Log). log_with l (joined batches)) (batch_written w batch)
-    ∙ written_then w.log batch (joined batches))
+    ∙ (ap (λ (l : Log). log_with l (items_in batches)) (batch_written w batch)
+    ∙ written_then w.log batch (items_in batches))
 
 -- items that are cut into batches
-pub cut_written : (w : World) (items : List Item) → (with_batches w (batches_of items)).log ≡ log_with w.log items
-cut_written w items = batches_written (batches_of items) w ∙ ap (λ (is : List Item). log_with w.log is) (joins item_bytes items)
+pub cut_written : (w : World) (items : List Item) → (with_all_batches w (item_batches items)).log ≡ log_with w.log items
+cut_written w items = batches_written (item_batches items) w ∙ ap (λ (is : List Item). log_with w.log is) (joins item_bytes items)

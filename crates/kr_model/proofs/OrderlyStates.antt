@@ -15,7 +15,7 @@ use Rattle.kr_calls.specs.declared.events.Reason.{Reason}
 use Rattle.kr_calls.specs.declared.calls.Ask.TheVariants as asks
 use Rattle.kr_calls.specs.declared.events.Event.TheVariants as events
 use Rattle.kr_calls.specs.Decide.{is_read}
-use Rattle.kr_calls.specs.Packed.{batches_of}
+use Rattle.kr_calls.specs.Packed.{item_batches}
 use Rattle.kr_defs.specs.declared.ill.Ill.{Ill}
 use Rattle.kr_defs.specs.declared.options.Options.{Options}
 use Rattle.kr_defs.specs.declared.record.Item.{Item}
@@ -34,7 +34,7 @@ use Rattle.kr_model.specs.Engine.{Rise}
 use Rattle.kr_model.specs.Events.{with_next_number, happens, time_after, outcome, state, at_time_of}
 use Rattle.kr_model.specs.Lead.{after_lead, giving_up, in_lead, lead, may_begin_at, taking_over, up_to}
 use Rattle.kr_model.specs.Lost.{after_lost, lost}
-use Rattle.kr_model.specs.World.{closed_of, leads_in, State, World, is_far, start, state_of_tip, tip_of, with_batch, with_batches, log_with}
+use Rattle.kr_model.specs.World.{closed_of, leads_in, State, World, is_far, start, state_of_tip, tip_of, with_batch, with_all_batches, log_with}
 use Rattle.kr_model.specs.Outputs.{new_writes, waiting_writes, waiting_after, writes_from}
 use Rattle.kr_model.specs.Reasons as reasons
 use Rattle.kr_model.specs.Batch.{batch_or, end_of, batch, take_batch, after_batch, unless_ill}
@@ -107,19 +107,19 @@ module _ (w : World) (r : Rises w) where
   rises_up_to next true = r
   rises_up_to next false = rises_with_batch (items.Control ∷ [])
 
-rises_with_batches : (batches : List (List Item)) (w : World) → Rises w → Rises (with_batches w batches)
+rises_with_batches : (batches : List (List Item)) (w : World) → Rises w → Rises (with_all_batches w batches)
 rises_with_batches [] w r = r
 rises_with_batches (batch ∷ batches) w r = rises_with_batches batches (with_batch w batch) (rises_with_batch w r batch)
 
 rises_fenced : (options : Options) (s : State) (brokers : List ℤ) → Rises s.world → Rises (fence_all options s brokers).world
 rises_fenced options s [] r = r
 rises_fenced options s (broker ∷ brokers) r =
-    rises_fenced options (fence options s broker) brokers (rises_with_batches (batches_of (fencing_items options s broker)) s.world r)
+    rises_fenced options (fence options s broker) brokers (rises_with_batches (item_batches (fencing_items options s broker)) s.world r)
 
 leading_fenced : (options : Options) (s : State) (brokers : List ℤ) → (fence_all options s brokers).world.leading ≡ s.world.leading
 leading_fenced options s [] = refl
 leading_fenced options s (broker ∷ brokers) =
-    leading_fenced options (fence options s broker) brokers ∙ (batches_leave (batches_of (fencing_items options s broker)) s.world).leading
+    leading_fenced options (fence options s broker) brokers ∙ (batches_leave (item_batches (fencing_items options s broker)) s.world).leading
 
 time_fenced : (options : Options) (s : State) (brokers : List ℤ) → (fence_all options s brokers).basis.time ≡ s.basis.time
 time_fenced options s [] = refl
@@ -235,7 +235,7 @@ module _ (options : Options) (s : State) (k : IsOrderly s) where
   writes_so : (request : Request) (b : Bool) → (b ≡ true → is_some s.world.leading ≡ true) → IsOrderly (cond b (after_write options s request) s)
   writes_so request false decision = k
   writes_so request true led =
-      let batches = batches_of (write_items options s request) in record {
+      let batches = item_batches (write_items options s request) in record {
         rises = rises_with_batches batches s.world k.rises;
         natural = k.natural;
         at_standby = λ none. absurd (leads s.world.leading (sym (batches_leave batches s.world).leading ∙ none) (led refl));

@@ -9,9 +9,9 @@ use Rattle.kr_defs.specs.Log.{Log, image_at, open_at, state_at, tip}
 use Rattle.kr_defs.specs.LogStates.{LogState, Opened, closed}
 use Rattle.kr_defs.proofs.StateLogs.{open_told}
 use Rattle.kr_calls.specs.Deciding.{apply_records}
-use Rattle.kr_calls.specs.Packed.{batches_of, packed, place_taken}
+use Rattle.kr_calls.specs.Packed.{item_batches, packed, place_taken}
 use Rattle.kr_calls.proofs.PackedItems.{packed_stand}
-use Rattle.kr_model.specs.World.{World, with_batches}
+use Rattle.kr_model.specs.World.{World, with_all_batches}
 use Rattle.kr_model.proofs.LogEntries.{cut_written}
 use Rattle.kr_model.proofs.Logs.{HasState, state_seen, state_written}
 
@@ -30,7 +30,7 @@ state_closed log image is none =
 -- what is written of records that have a meaning where they are decided
 module _ (w : World) (records : ℤ → List Record) (at : ℤ) (image after : Image) (here : state_at w.log (tip w.log) ≡ Ok (closed image)) (means : apply_records image (records (place_taken records at)) ≡ Ok after) where
   abbrev written : Log
-  written = (with_batches w (batches_of (packed records at))).log
+  written = (with_all_batches w (item_batches (packed records at))).log
 
   pub packed_written : state_at written (tip written) ≡ Ok (closed after)
   packed_written =

@@ -23,7 +23,7 @@ isnt_below m n h = grind (arith, nat_tests)
 pub near : (n : ℕ) → is_far (pos n) ≡ false → n ≤ unsigned_abs PLACES_END
 near n h = grind (arith, nat_tests)
 
-pub near_enough : (n : ℕ) (m : ℕ) → is_far (pos n) ≡ false → m ≤ 1000 → n + 10000 * m ≤ unsigned_abs PLACES_END
+pub near_enough : (n : ℕ) (m : ℕ) → is_far (pos n) ≡ false → m ≤ 5000 → n + 400002 * m ≤ unsigned_abs PLACES_END
 near_enough n m near few = let low : n ≤ 2305843009213693952 = far_not n near in omega (arith, low, few)
   where
     far_not : (n : ℕ) → is_far (pos n) ≡ false → n ≤ 2305843009213693952

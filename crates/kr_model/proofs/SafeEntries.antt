@@ -14,7 +14,7 @@ use Rattle.kr_calls.specs.declared.events.Reason.{Reason}
 use Rattle.kr_calls.specs.declared.events.Event.TheVariants as events
 use Rattle.kr_calls.specs.Decide.{is_read}
 use Rattle.kr_calls.specs.Deciding.{apply_records}
-use Rattle.kr_calls.specs.Packed.{batches_of, decide_taken, fits_once, items_of_write, packed, place_taken, records_of_write}
+use Rattle.kr_calls.specs.Packed.{item_batches, decide_taken, fits_once, items_of_write, packed, place_taken, records_of_write}
 use Rattle.kr_calls.specs.SafeChange.{Exchange}
 use Rattle.kr_calls.specs.TakingOut.{fencing}
 use Rattle.kr_calls.proofs.DecisionMeanings.{requests_stand}
@@ -45,7 +45,7 @@ use Rattle.kr_model.specs.Entries.{entries_by, items_from, item_entries}
 use Rattle.kr_model.specs.Events.{outcome, at_time_of}
 use Rattle.kr_model.specs.Lost.{after_lost, lost}
 use Rattle.kr_model.specs.Lead.{giving_up, in_lead, lead, may_begin_at, taking_over}
-use Rattle.kr_model.specs.World.{leads_in, State, World, image_of_tip, is_far, tip_of, with_batches, log_with}
+use Rattle.kr_model.specs.World.{leads_in, State, World, image_of_tip, is_far, tip_of, with_all_batches, log_with}
 use Rattle.kr_model.specs.Reasons.{already_leading, bad_commit, bad_next, exhausted, not_leading, old_epoch}
 use Rattle.kr_model.specs.Request.{after_write, decision, is_decided, request, write_items}
 use Rattle.kr_model.specs.SafeSteps.{AreSafeEntries, StepsAreSafe, exchange_in, is_anothers}
@@ -325,7 +325,7 @@ module _ (options : Options) (s : State) (state : LogState) (valid : IsValid sta
         → AreSafeEntries (Some (exchange_for ask request)) state (item_entries (pos (tip_of s)) (items_from (cond b (after_write options (served ask) request) (served ask)).world.log (tip_of s)))
     write_safe true ask request led =
         let own = write_items options (served ask) request in
-        safe_added (Some (exchange_for ask request)) s.world.log (with_batches s.world (batches_of own)).log own state (cut_written s.world own)
+        safe_added (Some (exchange_for ask request)) s.world.log (with_all_batches s.world (item_batches own)).log own state (cut_written s.world own)
         (write_items_safe ask request (calm.leads (led refl)))
     write_safe false ask request led = safe_none (Some (exchange_for ask request)) state (pos (tip_of s)) (items_from s.world.log (tip_of s)) (none_behind s.world.log)
 

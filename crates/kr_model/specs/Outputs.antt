@@ -19,7 +19,7 @@ use Rattle.kr_calls.specs.declared.calls.Reply.TheVariants as replies
 use Rattle.kr_calls.specs.declared.events.Event.TheVariants as events
 use Rattle.kr_calls.specs.declared.events.Output.TheVariants as given
 use Rattle.kr_calls.specs.Decide.{is_read, query}
-use Rattle.kr_calls.specs.Packed.{batches_of}
+use Rattle.kr_calls.specs.Packed.{item_batches}
 use Rattle.kr_calls.specs.Refuse.{refuse}
 use Rattle.kr_defs.specs.declared.options.Options.{Options}
 use Rattle.kr_defs.specs.declared.record.Item.{Item}
@@ -53,10 +53,10 @@ append_all s (batch ∷ batches) = append s batch ++ append_all (record s { worl
 abbrev pub append_fencings : Options → State → List ℤ → List Output
 append_fencings options s [] = []
 append_fencings options s (broker ∷ brokers) =
-    append_all s (batches_of (fencing_items options s broker)) ++ append_fencings options (fence options s broker) brokers
+    append_all s (item_batches (fencing_items options s broker)) ++ append_fencings options (fence options s broker) brokers
 
 abbrev pub append_for : Options → State → Ask → List Output
-append_for options s (asks.Call call) = if is_decided s.world (asks.Call call) then append_all s (batches_of (write_items options s call.request)) else []
+append_for options s (asks.Call call) = if is_decided s.world (asks.Call call) then append_all s (item_batches (write_items options s call.request)) else []
 append_for options s (asks.Bare correlation fault) = []
 
 -- the batches of an accepted event

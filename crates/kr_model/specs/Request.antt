@@ -5,12 +5,12 @@ use Rattle.kr_calls.specs.declared.calls.Request.{Request}
 use Rattle.kr_calls.specs.declared.events.Reason.{Reason}
 use Rattle.kr_calls.specs.declared.calls.Ask.TheVariants as asks
 use Rattle.kr_calls.specs.Decide.{Decision, is_read}
-use Rattle.kr_calls.specs.Packed.{batches_of, decide_taken, items_of_write}
+use Rattle.kr_calls.specs.Packed.{item_batches, decide_taken, items_of_write}
 use Rattle.kr_defs.specs.declared.options.Options.{Options}
 use Rattle.kr_defs.specs.declared.record.Item.{Item}
 use Rattle.kr_defs.specs.Guard.{refuse◌when◌else◌}
 use Rattle.kr_model.specs.Reasons.{exhausted}
-use Rattle.kr_model.specs.World.{World, State, with_heartbeats, image_of_tip, is_far, tip_of, with_batches}
+use Rattle.kr_model.specs.World.{World, State, with_heartbeats, image_of_tip, is_far, tip_of, with_all_batches}
 
 -- a write, while this node leads
 abbrev pub is_decided : World → Ask → Bool
@@ -26,7 +26,7 @@ write_items options s request = items_of_write options (image_of_tip s) s.basis 
 
 abbrev pub after_write : Options → State → Request → State
 after_write options s request = record {
-  world = with_batches s.world (batches_of (write_items options s request));
+  world = with_all_batches s.world (item_batches (write_items options s request));
   basis = with_heartbeats s.basis (decision options s request).heartbeats;
 }
 

@@ -3,7 +3,7 @@ use Rattle.std.specs.Prelude.{◌&&◌, ◌-ℤ◌, ℤ, pos, List, [], fold, is
 use Rattle.std.specs.Option.{option_map_or}
 use Rattle.std.specs.Ordering.{int_cmp}
 use Rattle.kr_calls.specs.declared.events.Reason.{Reason}
-use Rattle.kr_calls.specs.Packed.{batches_of, packed}
+use Rattle.kr_calls.specs.Packed.{item_batches, packed}
 use Rattle.kr_calls.specs.TakingOut.{fencing}
 use Rattle.kr_defs.specs.declared.options.Options.{Options}
 use Rattle.kr_defs.specs.declared.record.Item.{Item}
@@ -13,7 +13,7 @@ use Rattle.kr_defs.specs.Heartbeats.{expired, heard, leave}
 use Rattle.kr_defs.specs.Image.{Image}
 use Rattle.kr_defs.specs.Map as entries
 use Rattle.kr_model.specs.Reasons.{exhausted}
-use Rattle.kr_model.specs.World.{State, with_heartbeats, image_of_tip, is_far, tip_of, with_batches}
+use Rattle.kr_model.specs.World.{State, with_heartbeats, image_of_tip, is_far, tip_of, with_all_batches}
 
 -- the contacts whose session has ended, the one first that was heard of longest ago; on standby there are no contacts
 abbrev pub lapsed_contacts : Options → State → List ℤ
@@ -31,7 +31,7 @@ fencing_items options s broker = packed (λ place. fencing_of options (image_of_
 -- the broker is fenced
 abbrev pub fence : Options → State → ℤ → State
 fence options s broker = record {
-  world = with_batches s.world (batches_of (fencing_items options s broker));
+  world = with_all_batches s.world (item_batches (fencing_items options s broker));
   basis = with_heartbeats s.basis (leave (heard s.basis) broker);
 }
 

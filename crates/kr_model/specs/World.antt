@@ -91,8 +91,8 @@ with_batch w items =
     record w { log = log_with w.log items; batch_ends = w.batch_ends ++ (tip w.log + length items) ∷ [] }
 
 -- batches, one behind the other
-abbrev pub with_batches : World → List (List Item) → World
-with_batches w batches = fold with_batch w batches
+abbrev pub with_all_batches : World → List (List Item) → World
+with_all_batches w batches = fold with_batch w batches
 
 abbrev pub with_records : World → List Record → World
 with_records w records = with_batch w (as_items records)

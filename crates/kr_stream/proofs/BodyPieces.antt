@@ -8,7 +8,7 @@ use Rattle.kr_defs.specs.declared.limits.TheConstants.{MOST_SESSION_BYTES}
 use Rattle.kr_stream.specs.declared.fault.StreamFault.{StreamFault}
 use Rattle.kr_stream.specs.declared.fault.StreamFault.TheVariants as faults
 use Rattle.kr_stream.specs.Reader.{Took}
-use Rattle.kr_stream.specs.inner.Taken.{Lacks, Short, ShortCause, TookBehind, UpTo}
+use Rattle.kr_stream.specs.inner.Taken.{Lacks, Short, ShortCause, GrewBehind, UpTo}
 use Rattle.kr_stream.proofs.Parts.{both_bytes, consumes_none}
 
 module _ (start at most : ℕ) (a b : Option (List ℕ)) (f g : ℕ) where
@@ -33,7 +33,7 @@ piece_taken at more a b piece t = record {
 }
 
 -- it stands behind others
-pub piece_grown : (at more : ℕ) (a b : Option (List ℕ)) (bytes bytes' piece : List ℕ) → Took (Exactly piece) a b at (at + more) → bytes' ≡ bytes ++ piece → TookBehind a b at more bytes bytes'
+pub piece_grown : (at more : ℕ) (a b : Option (List ℕ)) (bytes bytes' piece : List ℕ) → Took (Exactly piece) a b at (at + more) → bytes' ≡ bytes ++ piece → GrewBehind a b at more bytes bytes'
 piece_grown at more a b bytes bytes' piece t grown = record {
   taken = t.taken;
   took = t.took;
@@ -45,7 +45,7 @@ piece_grown at more a b bytes bytes' piece t grown = record {
 
 module _ (a b c : Option (List ℕ)) (at more : ℕ) (bytes : List ℕ) (t : Took (Exactly bytes) a b at (at + length bytes)) where
   -- a piece more behind the others
-  pub more_taken : (bytes' : List ℕ) → TookBehind b c (at + length bytes) more bytes bytes' → Took (Exactly bytes') a c at (at + length bytes')
+  pub more_taken : (bytes' : List ℕ) → GrewBehind b c (at + length bytes) more bytes bytes' → Took (Exactly bytes') a c at (at + length bytes')
   more_taken bytes' p =
       let both = length-append bytes p.taken in
       let grown = ap (λ (l : List ℕ). length l) p.grown in

@@ -6,7 +6,7 @@ ghost use Rattle.kr_defs.specs.declared.limits.TheConstants.{MOST_SESSION_BYTES}
 ghost use Rattle.kr_stream.specs.declared.stage.Stage.TheVariants as stages;
 ghost use Rattle.kr_stream.specs.Reader as reader;
 ghost use Rattle.kr_stream.specs.Reader.{IsNext, Took, Stands, Stopped, Stops};
-ghost use Rattle.kr_stream.specs.inner.Taken.{Lacks, TookBehind};
+ghost use Rattle.kr_stream.specs.inner.Taken.{Lacks, GrewBehind};
 
 use crate::bodies::{BodyFault, frame_of};
 use crate::filling::take;
@@ -152,9 +152,11 @@ fn read_body<S: Source>(
     at: u64,
 ) -> Result<Vec<u8>, StreamFault>
     requires { at + 5 ≤ MOST_SESSION_BYTES }
-    ensures body { IfOk result (λ read. Took (Exactly read.items) (S.left source.old) (S.left source.new) (at + 5) (at + 5 + len)) }
+    ensures body { IfOk result (λ read. Took (Exactly read.items) (S.left source.old)
+        (S.left source.new) (at + 5) (at + 5 + len)) }
     ensures len { IfOk result (λ read. length read.items ≡ len) }
-    ensures lacks { IfErr result (λ fault. Lacks at (at + 5) len (S.left source.old) (S.left source.new) (S.faults source.old) (S.faults source.new) fault) }
+    ensures lacks { IfErr result (λ fault. Lacks at (at + 5) len (S.left source.old)
+        (S.left source.new) (S.faults source.old) (S.faults source.new) fault) }
     ensures later { S.faults source.old ≤ S.faults source.new }
 {
     let mut body = match read_piece(alloc, source, len.min(PIECE), at, at + 5) {
@@ -183,8 +185,10 @@ fn read_behind<S: Source>(
     at: u64,
 ) -> Result<(), StreamFault>
     requires { at ≤ MOST_SESSION_BYTES }
-    ensures behind { OnOk result (TookBehind (S.left source.old) (S.left source.new) at more body.old.items body.new.items) }
-    ensures lacks { IfErr result (λ fault. Lacks start at more (S.left source.old) (S.left source.new) (S.faults source.old) (S.faults source.new) fault) }
+    ensures behind { OnOk result (GrewBehind (S.left source.old) (S.left source.new) at more
+        body.old.items body.new.items) }
+    ensures lacks { IfErr result (λ fault. Lacks start at more (S.left source.old)
+        (S.left source.new) (S.faults source.old) (S.faults source.new) fault) }
     ensures later { S.faults source.old ≤ S.faults source.new }
 {
     let piece = match read_piece(alloc, source, more, start, at) {
@@ -207,9 +211,11 @@ fn read_piece<S: Source>(
     at: u64,
 ) -> Result<Vec<u8>, StreamFault>
     requires { at ≤ MOST_SESSION_BYTES }
-    ensures piece { IfOk result (λ read. Took (Exactly read.items) (S.left source.old) (S.left source.new) at (at + len)) }
+    ensures piece { IfOk result (λ read. Took (Exactly read.items) (S.left source.old)
+        (S.left source.new) at (at + len)) }
     ensures len { IfOk result (λ read. length read.items ≡ len) }
-    ensures lacks { IfErr result (λ fault. Lacks start at len (S.left source.old) (S.left source.new) (S.faults source.old) (S.faults source.new) fault) }
+    ensures lacks { IfErr result (λ fault. Lacks start at len (S.left source.old)
+        (S.left source.new) (S.faults source.old) (S.faults source.new) fault) }
     ensures later { S.faults source.old ≤ S.faults source.new }
 {
     let piece = match room_for(alloc, len) {
@@ -236,9 +242,11 @@ fn fill_piece<S: Source>(
     at: u64,
 ) -> Result<Vec<u8>, StreamFault>
     requires { at ≤ MOST_SESSION_BYTES }
-    ensures piece { IfOk result (λ read. Took (Exactly read.items) (S.left source.old) (S.left source.new) at (at + length piece.items)) }
+    ensures piece { IfOk result (λ read. Took (Exactly read.items) (S.left source.old)
+        (S.left source.new) at (at + length piece.items)) }
     ensures len { IfOk result (λ read. length read.items ≡ length piece.items) }
-    ensures lacks { IfErr result (λ fault. Lacks start at (length piece.items) (S.left source.old) (S.left source.new) (S.faults source.old) (S.faults source.new) fault) }
+    ensures lacks { IfErr result (λ fault. Lacks start at (length piece.items)
+        (S.left source.old) (S.left source.new) (S.faults source.old) (S.faults source.new) fault) }
     ensures later { S.faults source.old ≤ S.faults source.new }
 {
     match take(source, piece.as_mut_slice(), start, at) {

@@ -95,7 +95,7 @@ one_more records n r small few =
     let own = sum_one r in
     record { count = omega (arith, c, joined); little = omega (arith, l, sum, own, small) }
 
-within : (w : Work) (n : ℕ) (v : Walked) (c : PartitionChange) → AreFew (w.records ++ kinds.PartitionChange v.key.1 v.key.0 c ∷ []) n → n ≤ 9000
+within : (w : Work) (n : ℕ) (v : Walked) (c : PartitionChange) → AreFew (w.records ++ kinds.PartitionChange v.key.1 v.key.0 c ∷ []) n → n ≤ 200000
     → is_within_limits w.records (kinds.PartitionChange v.key.1 v.key.0 c ∷ []) ≡ true
 within w n v c few most =
     let all = w.records ++ kinds.PartitionChange v.key.1 v.key.0 c ∷ [] in
@@ -148,7 +148,7 @@ done_is : (options : Options) (w : Work) (v : Walked) (c : PartitionChange) → 
 unfolding done
 done_is options w v c drafted is = ap (λ (r : Result (Draft PartitionElectionResult) ℤ). done answer w (by_name v) r) drafted ∙ ap (λ (o : Option Work). settled answer w (by_name v) (answer (pos 0) (by_name v)) o) is
 
-elected_by : (options : Options) (w : Work) (v : Walked) (n : ℕ) (o : Option PartitionChange) → There w.image v → has_topic w.image.topics v.key.0 ≡ true → AreFew w.records n → n + 1 ≤ 9000
+elected_by : (options : Options) (w : Work) (v : Walked) (n : ℕ) (o : Option PartitionChange) → There w.image v → has_topic w.image.topics v.key.0 ≡ true → AreFew w.records n → n + 1 ≤ 200000
     → IsSomeAnd o (λ c. GoesBack v.partition (merged v.partition c)) → IfSome o (λ c. IsTrue (is_well_formed (merged v.partition c)))
     → rule options (pos 0) w.image w.place (by_name v) ≡ Ok (drafted (by_name v) v.key.0 o) → Elected w v n (one answer (rule options (pos 0)) w (by_name v))
 elected_by options w v n None there topic few most back well drafted = absurd back
@@ -159,7 +159,7 @@ elected_by options w v n (Some c) there topic few most back well drafted =
     (record { p = merged v.partition c; back = back; image = refl; few = more; answer = refl })
 
 module _ (options : Options) (image : Image) where
-  elects : (w : Work) (v : Walked) (n : ℕ) → w.image.brokers ≡ image.brokers → w.image.topics ≡ image.topics → IsFit image v → There w.image v → AreFew w.records n → n + 1 ≤ 9000
+  elects : (w : Work) (v : Walked) (n : ℕ) → w.image.brokers ≡ image.brokers → w.image.topics ≡ image.topics → IsFit image v → There w.image v → AreFew w.records n → n + 1 ≤ 200000
       → Elected w v n (one answer (rule options (pos 0)) w (by_name v))
   elects w v n brokers topics f there few most =
       let facts = facts_of options w.image v.topic in
@@ -209,7 +209,7 @@ module _ (options : Options) (image : Image) where
   }
 
   pub all_elected : (vs : List Walked) (w : Work) (n : ℕ) → w.image.brokers ≡ image.brokers → w.image.topics ≡ image.topics → IsMap partition_order w.image.partitions
-      → AllByRecursion (IsFit image) vs → AllByRecursion (There w.image) vs → Apart vs → AreFew w.records n → n + length vs ≤ 9000 → AllElected w vs n
+      → AllByRecursion (IsFit image) vs → AllByRecursion (There w.image) vs → Apart vs → AreFew w.records n → n + length vs ≤ 200000 → AllElected w vs n
   all_elected [] w n brokers topics ordered fit there apart few most = record {
     leaves = record { back = tt; brokers = refl; topics = refl; configs = refl; features = refl; keys = refl; others = λ key _. refl };
     count = let c = few.count in omega (arith, c);

@@ -85,9 +85,9 @@ module _ (image : Image) (percent : ℕ) (valid : IsValid image) where
         | false ↦ kept_apart ws h.1
       ]
 
-  few_planned : length (planned image percent) ≤ 9000
+  few_planned : length (planned image percent) ≤ 200000
   few_planned =
-      let most : length image.partitions ≤ 9000 = valid.partitions.few in
+      let most : length image.partitions ≤ 200000 = valid.partitions.few in
       let walks = walk_few image.partitions image.topics valid.topics.distinct in
       let some = length-filter_le (is_planned image percent) (walk image) in
       omega (arith, most, walks, some)

@@ -28,7 +28,7 @@ use Rattle.kr_record.proofs.RecordForms.{size}
 use Rattle.kr_batch.specs.BatchBytes.{VALUES_END, IsWritable, item_value, values_size}
 use Rattle.kr_calls.specs.Deciding.{apply_records, is_request}
 use Rattle.kr_calls.specs.Decide.{work_of}
-use Rattle.kr_calls.specs.Packed.{batches_of, fits_once, item_bytes, packed, place_taken, records_of_write}
+use Rattle.kr_calls.specs.Packed.{item_batches, fits_once, item_bytes, packed, place_taken, records_of_write}
 use Rattle.kr_calls.proofs.DecisionMeanings.{requests_stand}
 use Rattle.law_batch_limits.specs.Fitting.{FitsBatch, RecordsFit, RequestsFit}
 use Rattle.law_batch_limits.proofs.RequestLimits.{requests_bounded}
@@ -117,10 +117,10 @@ all_fit : (batches : List (List Item)) → AllByRecursion (IsBounded item_bytes 
 all_fit [] are all = tt
 all_fit (batch ∷ batches) are all = (one_fits batch are.0 all.0, all_fit batches are.1 all.1)
 
-batches_fit : (items : List Item) → AreLight items → All FitsBatch (batches_of items)
+batches_fit : (items : List Item) → AreLight items → All FitsBatch (item_batches items)
 batches_fit items all =
-    All-from_recursion FitsBatch (batches_of items)
-    (all_fit (batches_of items) (bounded item_bytes MOST_REQUEST_BYTES (omega arith) items (each_few items all)) (each item_bytes IsLight items all))
+    All-from_recursion FitsBatch (item_batches items)
+    (all_fit (item_batches items) (bounded item_bytes MOST_REQUEST_BYTES (omega arith) items (each_few items all)) (each item_bytes IsLight items all))
 
 -- ----
 

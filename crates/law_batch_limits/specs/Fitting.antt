@@ -9,7 +9,7 @@ use Rattle.kr_defs.specs.Image.{Image}
 use Rattle.kr_batch.specs.BatchBytes.{VALUES_END, IsWritable, values_size}
 use Rattle.kr_calls.specs.declared.calls.Request.{Request}
 use Rattle.kr_calls.specs.Deciding.{apply_records, is_request}
-use Rattle.kr_calls.specs.Packed.{batches_of, items_of_write, packed, place_taken}
+use Rattle.kr_calls.specs.Packed.{item_batches, items_of_write, packed, place_taken}
 
 -- some items, which are few, each has a written form, and their values are small
 pub record FitsBatch (items : List Item) : Type 0 where
@@ -22,9 +22,9 @@ pub record FitsBatch (items : List Item) : Type 0 where
 abbrev pub RecordsFit : Type 0
 RecordsFit =
     (image after : Image) (records : ℤ → List Record) (tip : ℤ) → apply_records image (records (place_taken records tip)) ≡ Ok after
-    → is_request (records (place_taken records tip)) ≡ true → All FitsBatch (batches_of (packed records tip))
+    → is_request (records (place_taken records tip)) ≡ true → All FitsBatch (item_batches (packed records tip))
 
 -- So does each batch of every request.
 abbrev pub RequestsFit : Type 0
 RequestsFit =
-    (options : Options) (basis : Basis) (image : Image) (tip : ℤ) (request : Request) → All FitsBatch (batches_of (items_of_write options image basis tip request))
+    (options : Options) (basis : Basis) (image : Image) (tip : ℤ) (request : Request) → All FitsBatch (item_batches (items_of_write options image basis tip request))

@@ -15,7 +15,7 @@ use Rattle.kr_calls.specs.declared.events.Reason.{Reason}
 use Rattle.kr_calls.specs.declared.calls.Ask.TheVariants as asks
 use Rattle.kr_calls.specs.declared.events.Event.TheVariants as events
 use Rattle.kr_calls.specs.Decide.{Decision, is_read}
-use Rattle.kr_calls.specs.Packed.{batches_of, decide_taken, items_of_write}
+use Rattle.kr_calls.specs.Packed.{item_batches, decide_taken, items_of_write}
 use Rattle.kr_defs.specs.declared.basis.Basis.{Basis}
 use Rattle.kr_defs.specs.declared.ill.Ill.{Ill}
 use Rattle.kr_defs.specs.declared.options.Options.{Options}
@@ -36,7 +36,7 @@ use Rattle.kr_model.specs.Commit.{commit, after_commit, ends_up_to, is_end}
 use Rattle.kr_model.specs.Events.{happens, outcome, at_time_of}
 use Rattle.kr_model.specs.Lead.{after_lead, giving_up, lead, may_begin_at, up_to}
 use Rattle.kr_model.specs.Lost.{after_lost, lost}
-use Rattle.kr_model.specs.World.{leads_in, State, with_heartbeats, image_of_tip, is_far, log_with, state_of_tip, tip_of, with_batch, with_batches, with_records}
+use Rattle.kr_model.specs.World.{leads_in, State, with_heartbeats, image_of_tip, is_far, log_with, state_of_tip, tip_of, with_batch, with_all_batches, with_records}
 use Rattle.kr_model.specs.Reasons as reasons
 use Rattle.kr_model.specs.Batch.{batch_or, end_of, batch, take_batch, after_batch, unless_ill}
 use Rattle.kr_model.specs.Load.{image_or, load, take_image, after_load}
@@ -303,7 +303,7 @@ module _ (before : State) (options : Options) (r : State) (log : Log) (greatest 
   same_written leads request = same_of items_of_write leads request
 
   abbrev after : State → List Item → Decision → State
-  after t own d = record { world = with_batches t.world (batches_of own); basis = with_heartbeats t.basis d.heartbeats }
+  after t own d = record { world = with_all_batches t.world (item_batches own); basis = with_heartbeats t.basis d.heartbeats }
 
   write_alike : (request : Request) (b : Bool) → (b ≡ true → is_some r.world.leading ≡ true) → Alike before (cond b (after_write options s request) s) (cond b (after_write options r request) r)
   write_alike request false led = k
@@ -311,7 +311,7 @@ module _ (before : State) (options : Options) (r : State) (log : Log) (greatest 
       let d = decision options r request in
       let own = write_items options r request in
       subst (λ (xs : List Item). Alike before (after s xs (decision options s request)) (after_write options r request)) (sym (same_written (led refl) request))
-      (subst (λ (x : Decision). Alike before (after s own x) (after_write options r request)) (sym (same_decided (led refl) request)) (appended_alike before s r k (batches_of own) d.heartbeats))
+      (subst (λ (x : Decision). Alike before (after s own x) (after_write options r request)) (sym (same_decided (led refl) request)) (appended_alike before s r k (item_batches own) d.heartbeats))
 
   pub asked_alike : (ask : Ask) → Alike before (after_ask options s ask) (after_ask options r ask)
   asked_alike (asks.Call call) =

@@ -12,7 +12,7 @@ use Rattle.kr_calls.specs.declared.calls.Ask.TheVariants as asks
 use Rattle.kr_calls.specs.declared.events.Event.TheVariants as events
 use Rattle.kr_calls.specs.declared.events.Output.TheVariants as given
 use Rattle.kr_calls.specs.Decide.{Decision, is_read, query}
-use Rattle.kr_calls.specs.Packed.{batches_of}
+use Rattle.kr_calls.specs.Packed.{item_batches}
 use Rattle.kr_calls.specs.Refuse.{refuse}
 use Rattle.kr_calls.specs.declared.errors.TheConstants.{NOT_CONTROLLER}
 use Rattle.kr_defs.specs.declared.basis.Basis.{Basis}
@@ -63,9 +63,9 @@ module _ (before : State) (options : Options) where
   same_fencings [] s r k times = refl
   same_fencings (broker ∷ brokers) s r k times =
       let own = fencing_items options r broker in
-      ap (λ (xs : List Item). append_all s (batches_of xs) ++ append_fencings options (fence options s broker) brokers) (same_fencing before options s r k broker)
-      ∙ (ap (λ first. first ++ append_fencings options (fence options s broker) brokers) (all_same (batches_of own) s r k times)
-      ∙ ap (λ rest. append_all r (batches_of own) ++ rest) (same_fencings brokers (fence options s broker) (fence options r broker) (fenced_alike before options s r k broker) times))
+      ap (λ (xs : List Item). append_all s (item_batches xs) ++ append_fencings options (fence options s broker) brokers) (same_fencing before options s r k broker)
+      ∙ (ap (λ first. first ++ append_fencings options (fence options s broker) brokers) (all_same (item_batches own) s r k times)
+      ∙ ap (λ rest. append_all r (item_batches own) ++ rest) (same_fencings brokers (fence options s broker) (fence options r broker) (fenced_alike before options s r k broker) times))
 
 -- ---- an event
 
@@ -95,11 +95,11 @@ module _ (before : State) (options : Options) (r : State) (log : Log) (greatest 
   written : is_some r.world.leading ≡ true → (request : Request) → write_items options s request ≡ write_items options r request
   written leads request = same_written before options r log greatest count time led k o leads request
 
-  append_by : (request : Request) (b : Bool) → (b ≡ true → is_some r.world.leading ≡ true) → cond b (append_all s (batches_of (write_items options s request))) [] ≡ cond b (append_all r (batches_of (write_items options r request))) []
+  append_by : (request : Request) (b : Bool) → (b ≡ true → is_some r.world.leading ≡ true) → cond b (append_all s (item_batches (write_items options s request))) [] ≡ cond b (append_all r (item_batches (write_items options r request))) []
   append_by request false leads = refl
   append_by request true leads =
-      ap (λ (own : List Item). append_all s (batches_of own)) (written (leads refl) request)
-      ∙ all_same before options (batches_of (write_items options r request)) s r k (same_times before s r k (leads refl))
+      ap (λ (own : List Item). append_all s (item_batches own)) (written (leads refl) request)
+      ∙ all_same before options (item_batches (write_items options r request)) s r k (same_times before s r k (leads refl))
 
   same_append_for : (ask : Ask) → append_for options s ask ≡ append_for options r ask
   same_append_for (asks.Call call) =

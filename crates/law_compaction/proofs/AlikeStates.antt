@@ -6,7 +6,7 @@ use Rattle.std.specs.Int.{int_max}
 use Rattle.std.specs.Ordering.{int_eq}
 use Rattle.kr_calls.specs.declared.events.Event.{Event}
 use Rattle.kr_calls.specs.declared.events.Event.TheVariants as events
-use Rattle.kr_calls.specs.Packed.{batches_of, packed}
+use Rattle.kr_calls.specs.Packed.{item_batches, packed}
 use Rattle.kr_defs.specs.declared.basis.Contact.{Contact}
 use Rattle.kr_defs.specs.declared.basis.Stopping.{Stopping}
 use Rattle.kr_defs.specs.declared.options.Options.{Options}
@@ -17,7 +17,7 @@ use Rattle.kr_defs.specs.Log.{Log, closed_end_at, tip}
 use Rattle.kr_defs.proofs.StateLogs.{closed_end_between}
 use Rattle.kr_model.specs.Events.{with_next_number, time_after, at_time_of}
 use Rattle.kr_model.specs.Tick.{fence, fence_all, fencing_items, fencing_of}
-use Rattle.kr_model.specs.World.{State, with_heartbeats, closed_of, image_of_closed, image_of_tip, seen_at, state_of_tip, tip_of, with_batch, with_batches, log_with}
+use Rattle.kr_model.specs.World.{State, with_heartbeats, closed_of, image_of_closed, image_of_tip, seen_at, state_of_tip, tip_of, with_batch, with_all_batches, log_with}
 use Rattle.law_compaction.proofs.AlikeLogs.{Shortens, same_closed, same_seen, same_seen_at_tip, same_state_at_tip, same_tip, shortens_written}
 use Rattle.kr_model.proofs.KeptImages.{not_higher}
 use Rattle.kr_model.proofs.OrderlyStates.{Rises, not_earlier, through}
@@ -145,16 +145,16 @@ module _ (before : State) where
           | false ↦ longer_alike
         ]
 
-  all_written_alike : (batches : List (List Item)) (s r : State) → Alike before s r → Alike before (record s { world = with_batches s.world batches }) (record r { world = with_batches r.world batches })
+  all_written_alike : (batches : List (List Item)) (s r : State) → Alike before s r → Alike before (record s { world = with_all_batches s.world batches }) (record r { world = with_all_batches r.world batches })
   all_written_alike [] s r k = k
   all_written_alike (batch ∷ batches) s r k =
       all_written_alike batches (record s { world = with_batch s.world batch }) (record r { world = with_batch r.world batch }) (written_alike s r k batch)
 
   -- batches, and whom the node hears of then
   pub appended_alike : (s r : State) → Alike before s r → (batches : List (List Item)) (heard : Heartbeats)
-      → Alike before (record { world = with_batches s.world batches; basis = with_heartbeats s.basis heard }) (record { world = with_batches r.world batches; basis = with_heartbeats r.basis heard })
+      → Alike before (record { world = with_all_batches s.world batches; basis = with_heartbeats s.basis heard }) (record { world = with_all_batches r.world batches; basis = with_heartbeats r.basis heard })
   appended_alike s r k batches heard =
-      heard_alike (record s { world = with_batches s.world batches }) (record r { world = with_batches r.world batches }) (all_written_alike batches s r k) heard
+      heard_alike (record s { world = with_all_batches s.world batches }) (record r { world = with_all_batches r.world batches }) (all_written_alike batches s r k) heard
 
   module _ (options : Options) where
     -- both write the same of a fencing
@@ -167,10 +167,10 @@ module _ (before : State) where
     fenced_alike s r k broker =
         let items = same_fencing s r k broker in
         let hears = same_heard before s r k in
-        let after : List Item → Heartbeats → State = λ own h. record { world = with_batches s.world (batches_of own); basis = with_heartbeats s.basis (leave h broker) } in
+        let after : List Item → Heartbeats → State = λ own h. record { world = with_all_batches s.world (item_batches own); basis = with_heartbeats s.basis (leave h broker) } in
         subst (λ (own : List Item). Alike before (after own (heard s.basis)) (fence options r broker)) (sym items)
         (subst (λ (h : Heartbeats). Alike before (after (fencing_items options r broker) h) (fence options r broker)) (sym hears)
-        (appended_alike s r k (batches_of (fencing_items options r broker)) (leave (heard r.basis) broker)))
+        (appended_alike s r k (item_batches (fencing_items options r broker)) (leave (heard r.basis) broker)))
 
     pub all_fenced_alike : (brokers : List ℤ) (s r : State) → Alike before s r → Alike before (fence_all options s brokers) (fence_all options r brokers)
     all_fenced_alike [] s r k = k

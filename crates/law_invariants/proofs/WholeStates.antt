@@ -14,7 +14,7 @@ use Rattle.kr_calls.specs.declared.events.Event.TheVariants as events
 use Rattle.kr_calls.specs.declared.events.Reason.{Reason}
 use Rattle.kr_calls.specs.Decide.{is_read}
 use Rattle.kr_calls.specs.Deciding.{apply_records}
-use Rattle.kr_calls.specs.Packed.{batches_of, packed, place_taken, records_of_write}
+use Rattle.kr_calls.specs.Packed.{item_batches, packed, place_taken, records_of_write}
 use Rattle.kr_calls.proofs.DecisionMeanings.{requests_stand}
 use Rattle.kr_defs.specs.declared.ill.Ill.{Ill}
 use Rattle.kr_defs.specs.declared.options.Options.{Options}
@@ -42,7 +42,7 @@ use Rattle.kr_model.specs.Lost.{after_lost, cut, lost}
 use Rattle.kr_model.specs.Reasons as reasons
 use Rattle.kr_model.specs.Request.{after_ask, after_write, decision, is_decided, request}
 use Rattle.kr_model.specs.Tick.{fence, fence_all, fencing_items, fencing_of, lapsed_contacts, tick}
-use Rattle.kr_model.specs.World.{State, World, image_of_tip, is_far, leads_in, log_with, seen_at, state_of_tip, tip_of, with_batches}
+use Rattle.kr_model.specs.World.{State, World, image_of_tip, is_far, leads_in, log_with, seen_at, state_of_tip, tip_of, with_all_batches}
 use Rattle.kr_model.proofs.ContactTimes.{AreInTime, begun_now, decided_in_time, leaving_in_time}
 use Rattle.kr_model.proofs.DueWrites.{batches_leave}
 use Rattle.kr_model.proofs.EventsWithoutWrites.{later_too, never_earlier}
@@ -74,7 +74,7 @@ seen_is log image m = ap (λ (r : Result Image Ill). result_unwrap_or r empty) m
 -- what is written of records that have a meaning where they are decided
 module _ (w : World) (records : ℤ → List Record) (at : ℤ) (before after : Image) (m : Makes w.log before) (none : open_at w.log (tip w.log) ≡ None) (means : apply_records before (records (place_taken records at)) ≡ Ok after) where
   abbrev grown : Log
-  grown = (with_batches w (batches_of (packed records at))).log
+  grown = (with_all_batches w (item_batches (packed records at))).log
 
   here : state_at w.log (tip w.log) ≡ Ok (closed before)
   here = state_closed w.log before m.shows none
@@ -133,7 +133,7 @@ module _ (options : Options) where
   fenced_whole [] s leads w = w
   fenced_whole (broker ∷ brokers) s leads w =
       fenced_whole brokers (fence options s broker)
-      (subst (λ (l : Option ℤ). IsSome l) (sym (batches_leave (batches_of (fencing_items options s broker)) s.world).leading) leads)
+      (subst (λ (l : Option ℤ). IsSome l) (sym (batches_leave (item_batches (fencing_items options s broker)) s.world).leading) leads)
       (fence_whole s broker leads w)
 
 -- ---- events

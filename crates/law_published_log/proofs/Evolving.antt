@@ -14,9 +14,9 @@ use Rattle.kr_calls.specs.declared.calls.Ask.TheVariants as asks
 use Rattle.kr_calls.specs.declared.events.Event.TheVariants as events
 use Rattle.kr_calls.specs.declared.events.Entry.{Entry}
 use Rattle.kr_calls.specs.declared.events.Entry.TheVariants as entries
-use Rattle.kr_calls.specs.Packed.{batches_of}
+use Rattle.kr_calls.specs.Packed.{item_batches}
 use Rattle.kr_calls.specs.SeatList.{item_entries}
-use Rattle.kr_defs.specs.CutLaws.{joined}
+use Rattle.kr_defs.specs.CutLaws.{items_in}
 use Rattle.kr_defs.specs.declared.ill.Ill.{Ill}
 use Rattle.kr_defs.specs.declared.limits.TheConstants.{PLACES_END}
 use Rattle.kr_defs.specs.declared.options.Options.{Options}
@@ -40,7 +40,7 @@ use Rattle.kr_model.specs.Lost.{after_lost, cut, lost}
 use Rattle.kr_model.specs.Reasons as reasons
 use Rattle.kr_model.specs.Request.{after_ask, after_write, is_decided, request, write_items}
 use Rattle.kr_model.specs.Tick.{fence, fence_all, fencing_items, lapsed_contacts, tick}
-use Rattle.kr_model.specs.World.{State, World, is_far, leads_in, log_with, state_of_tip, tip_of, with_batches}
+use Rattle.kr_model.specs.World.{State, World, is_far, leads_in, log_with, state_of_tip, tip_of, with_all_batches}
 use Rattle.kr_model.proofs.DueWrites.{batches_leave}
 use Rattle.kr_model.proofs.Leaderships.{control_if, lead_written}
 use Rattle.kr_model.proofs.LoadedImages.{IsLoadable, loaded_valid}
@@ -91,14 +91,14 @@ longer_then u v w a b = record {
   led = λ some. b.led (a.led some);
 }
 
-with_all : (w : World) (batches : List (List Item)) → Longer w (with_batches w batches)
-with_all w batches = record { items = joined batches; writes = batches_written batches w; led = λ some. ap (λ (l : Option ℤ). is_some l) (batches_leave batches w).leading ∙ some }
+with_all : (w : World) (batches : List (List Item)) → Longer w (with_all_batches w batches)
+with_all w batches = record { items = items_in batches; writes = batches_written batches w; led = λ some. ap (λ (l : Option ℤ). is_some l) (batches_leave batches w).leading ∙ some }
 
 fenced : (options : Options) (s : State) (brokers : List ℤ) → Longer s.world (fence_all options s brokers).world
 fenced options s [] = itself s.world s.world refl refl
 fenced options s (broker ∷ brokers) =
     let next = fence options s broker in
-    longer_then s.world next.world (fence_all options next brokers).world (with_all s.world (batches_of (fencing_items options s broker))) (fenced options next brokers)
+    longer_then s.world next.world (fence_all options next brokers).world (with_all s.world (item_batches (fencing_items options s broker))) (fenced options next brokers)
 
 far_less : (n : ℕ) → is_far (pos n) ≡ false → n < unsigned_abs PLACES_END
 far_less n near = grind (arith, nat_tests)
@@ -165,7 +165,7 @@ module _ (options : Options) (s : State) where
 
   writes_so : (request : Request) (b : Bool) → Longer s.world (cond b (after_write options s request) s).world
   writes_so request false = itself s.world s.world refl refl
-  writes_so request true = with_all s.world (batches_of (write_items options s request))
+  writes_so request true = with_all s.world (item_batches (write_items options s request))
 
   asks_on : (ask : Ask) → Longer s.world (after_ask options s ask).world
   asks_on (asks.Call call) = writes_so call.request (is_decided s.world (asks.Call call))

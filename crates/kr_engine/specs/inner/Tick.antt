@@ -32,7 +32,7 @@ pub record CanFence (e : Core) (count : ℕ) : Type 0 where
   pub sound : IsSound e
   pub valid : AreValid e.images
   pub leads : IsSome e.leading
-  pub room : unsigned_abs e.tip + 10000 * count ≤ unsigned_abs PLACES_END
+  pub room : unsigned_abs e.tip + 400002 * count ≤ unsigned_abs PLACES_END
 
 abbrev pub CanFenceAll : Core → List ℤ → Type 0
 CanFenceAll e [] = Unit {0}

@@ -42,7 +42,7 @@ Lacks start at most left left' count count' faults.NoMemory = UpTo at most left 
 Lacks start at most left left' count count' fault = Short start at most left left' count count' fault
 
 -- so many bytes were taken from a place on, and stand behind others
-pub record TookBehind (left left' : Option (List ℕ)) (at more : ℕ) (bytes bytes' : List ℕ) : Type 0 where
+pub record GrewBehind (left left' : Option (List ℕ)) (at more : ℕ) (bytes bytes' : List ℕ) : Type 0 where
   pub taken : List ℕ
   pub took : Consumes left left' taken
   pub known : IsBytes taken
