@@ -1,9 +1,12 @@
 -- What is written of a decision has a meaning.
-use Rattle.std.proofs.Common.{◌≡◌, ◌∙◌, ℕ, ℤ, Bool, true, false, cond, List, [], ◌∷◌, refl, ap}
+use Rattle.std.proofs.Common.{◌≡◌, ◌∙◌, ℕ, ◌+◌, ◌≤◌, ℤ, true, false, cond, List, [], ◌∷◌, length, length-append, refl, ap, arith}
+use Rattle.std.proofs.lemmas.List.{length-map}
 use Rattle.std.specs.Prelude.{pos, ◌+ℤ◌, Result, Ok, Err, None}
 use Rattle.kr_defs.specs.declared.basis.Basis.{Basis}
 use Rattle.kr_defs.specs.declared.ill.Ill.{Ill}
 use Rattle.kr_defs.specs.declared.options.Options.{Options}
+use Rattle.kr_defs.specs.declared.record.Item.{Item}
+use Rattle.kr_defs.specs.declared.record.Item.TheVariants as items
 use Rattle.kr_defs.specs.declared.record.Record.{Record}
 use Rattle.kr_defs.specs.declared.record.Record.TheVariants as kinds
 use Rattle.kr_defs.specs.Apply.{apply, apply_record}
@@ -47,3 +50,21 @@ pub writes_stand : WritesStand
 writes_stand options image basis tip request place =
     packed_stand (records_of_write options image basis request) tip image (decide_taken options image basis tip request).image place
     (requests_stand options basis.time (heard basis) image (place_taken (records_of_write options image basis request) tip) request)
+
+-- ---- how many there are
+
+as_long : (records : List Record) → length (as_items records) ≡ length records
+as_long records = length-map records (λ (r : Record). items.Record r)
+
+-- a begin and an end more than records
+pub packed_few : (records : ℤ → List Record) (tip : ℤ) (n : ℕ) → length (records (place_taken records tip)) ≤ n → length (packed records tip) ≤ n + 2
+unfolding place_taken packed
+packed_few records tip n =
+    elim (fits_once (records tip)) as (λ b. length (records (cond b tip (tip +ℤ pos 1))) ≤ n → length (cond b (as_items (records tip)) (transaction None (as_items (records (tip +ℤ pos 1))) kinds.EndTransaction)) ≤ n + 2) [
+      | true ↦ λ few. let long = as_long (records tip) in omega (arith, few, long)
+      | false ↦ λ few.
+          let inner : List Item = as_items (records (tip +ℤ pos 1)) in
+          let long = as_long (records (tip +ℤ pos 1)) in
+          let both = length-append inner (items.Record kinds.EndTransaction ∷ []) in
+          omega (arith, few, long, both)
+    ]

@@ -172,7 +172,7 @@ no_replicas : refused BadPartition (kinds.Partition (pos 1) 9 (record partition 
 unfolding apply apply_record merged is_well_formed
 no_replicas = refl
 
-added : gives (kinds.Partition (pos 199999) 9 partition) (record image { partitions = ((9, pos 0), partition) ∷ ((9, pos 199999), partition) ∷ [] })
+pub added : gives (kinds.Partition (pos 199999) 9 partition) (record image { partitions = ((9, pos 0), partition) ∷ ((9, pos 199999), partition) ∷ [] })
 unfolding apply apply_record merged is_well_formed
 added = refl
 

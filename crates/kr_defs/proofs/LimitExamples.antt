@@ -282,7 +282,7 @@ node_below_0 = refl
 batch_records : MOST_RECORDS ≡ 10000
 batch_records = refl
 
-batch_bytes : MOST_BATCH_BYTES ≡ 8000000
+pub batch_bytes : MOST_BATCH_BYTES ≡ 8000000
 batch_bytes = refl
 
 request_records : MOST_REQUEST_RECORDS ≡ 400000

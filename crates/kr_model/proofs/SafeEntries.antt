@@ -29,7 +29,7 @@ use Rattle.kr_defs.specs.declared.record.Record.{Record}
 use Rattle.kr_defs.specs.declared.record.Record.TheVariants as kinds
 use Rattle.kr_defs.specs.Apply.{apply, apply_record}
 use Rattle.kr_defs.specs.Guard.{and_then}
-use Rattle.kr_defs.specs.Heartbeats.{end, heard}
+use Rattle.kr_defs.specs.Heartbeats as hearing
 use Rattle.kr_defs.specs.Image.{Image, IsValid, empty}
 use Rattle.kr_defs.specs.ImageLaws.{as_items}
 use Rattle.kr_defs.specs.Log.{Log, open_at, state_at, tip}
@@ -246,7 +246,7 @@ safe_none exchange state place items none = subst (λ (is : List Item). AreSafeE
 -- a leader has nothing open; on standby nobody is heard of
 record IsCalm (s : State) (state : LogState) : Type 0 where
   leads : is_some s.world.leading ≡ true → state ≡ closed state.image
-  standby : s.world.leading ≡ None → heard s.basis ≡ end
+  standby : s.world.leading ≡ None → hearing.heard s.basis ≡ hearing.end
 
 module _ (options : Options) (s : State) (state : LogState) (valid : IsValid state.image) (shows : Shows s.world.log state) (calm : IsCalm s state) where
   lead_safe : (epoch next now : ℤ) → IsSafeBy None s (events.Lead epoch next now) state (lead (at_time_of s (events.Lead epoch next now)) epoch next)
@@ -316,7 +316,7 @@ module _ (options : Options) (s : State) (state : LogState) (valid : IsValid sta
         let d = decide_taken options state.image basis tip request in
         let own : AreSafeEntries (Some (request, d.reply)) (closed state.image) (item_entries tip (packed records tip)) =
         packed_safe (Some (request, d.reply)) state.image d.image records tip (tip_of s)
-        (requests_stand options basis.time (heard basis) state.image (place_taken records tip) request)
+        (requests_stand options basis.time (hearing.heard basis) state.image (place_taken records tip) request)
         (requests_are_safe options basis state.image (place_taken records tip) request valid) in
         subst (λ (x : LogState). AreSafeEntries (Some (exchange_for ask request)) x (item_entries tip (write_items options (served ask) request))) (sym is)
         (subst (λ (i : Image). AreSafeEntries (Some (request, (decide_taken options i basis tip request).reply)) (closed state.image) (item_entries tip (items_of_write options i basis tip request))) (sym (seen_too ask)) own)
@@ -354,8 +354,8 @@ steps_are_safe before after event s writes k step own =
     let valid = valid_at s.world.log (tip_of s) k.is_state.valid image k.present in
     let calm : IsCalm s seen.state = record {
       leads = λ some.
-          let there : Ok seen.state ≡ Ok (closed image) = sym seen.there ∙ state_closed s.world.log image k.present (k.is_state.decided (of_some s.world.leading some)) in
-          ok_is seen.state (closed image) there ∙ ap (λ (i : Image). closed i) (sym seen.same);
+          ok_is seen.state (closed image) (sym seen.there ∙ state_closed s.world.log image k.present (k.is_state.decided (of_some s.world.leading some)))
+          ∙ ap (λ (i : Image). closed i) (sym seen.same);
       standby = λ none. (k.is_state.at_standby none).1;
     } in
     subst (λ (x : LogState). AreSafeEntries (exchange_in before.options (at_time_of s event) event) x after.fresh) (sym (ap (λ (r : Result LogState Ill). result_unwrap_or r (closed empty)) seen.there))

@@ -1,7 +1,7 @@
 -- An event of a session adds few records.
-use Rattle.std.proofs.Common.{◌≡◌, ◌≤◌, ℕ, suc, ℤ, pos, Bool, true, false, cond, List, [], ◌∷◌, ◌++◌, length, refl, ap, ◌∙◌, arith}
-use Rattle.std.proofs.lemmas.List.{length-map}
-use Rattle.std.specs.Prelude.{filter, not, is_some, int_lt, ◌+ℤ◌, ◌&&◌, None, Result, Ok, Err}
+use Rattle.std.proofs.Common.{◌≡◌, ◌≤◌, nat_le, ℕ, suc, ◌+◌, ℤ, pos, Bool, true, false, cond, List, [], ◌∷◌, ◌++◌, length, refl, ap, ◌∙◌, arith}
+use Rattle.std.proofs.lemmas.Bool.{leb-true}
+use Rattle.std.specs.Prelude.{filter, sum_by, not, is_some, int_lt, ◌+ℤ◌, ◌&&◌, None, Result, Ok, Err}
 use Rattle.std.specs.Ordering.{int_eq}
 use Rattle.kr_calls.specs.declared.calls.Ask.TheVariants as asks
 use Rattle.kr_calls.specs.declared.calls.Call.{Call}
@@ -9,28 +9,31 @@ use Rattle.kr_calls.specs.declared.events.Event.{Event}
 use Rattle.kr_calls.specs.declared.events.Event.TheVariants as events
 use Rattle.kr_calls.specs.declared.events.Reason.{Reason}
 use Rattle.kr_calls.specs.declared.calls.Request.{Request}
-use Rattle.kr_defs.specs.declared.limits.TheConstants.{MOST_RECORDS}
+use Rattle.kr_calls.specs.Deciding.{is_request}
+use Rattle.kr_calls.specs.Packed.{item_batches, place_taken, records_of_write}
+use Rattle.kr_calls.proofs.PackedItems.{packed_few}
+use Rattle.kr_defs.specs.declared.limits.TheConstants.{MOST_REQUEST_BYTES, MOST_REQUEST_RECORDS}
 use Rattle.kr_defs.specs.declared.options.Options.{Options}
 use Rattle.kr_defs.specs.declared.record.Item.{Item}
-use Rattle.kr_defs.specs.declared.record.Item.TheVariants as items
 use Rattle.kr_defs.specs.declared.record.Record.{Record}
 use Rattle.kr_defs.specs.declared.record.Record.TheVariants as kinds
+use Rattle.kr_defs.specs.Heartbeats.{heard}
 use Rattle.kr_defs.specs.ImageLaws.{as_items}
 use Rattle.kr_defs.specs.Log.{Log, open_at, tip}
+use Rattle.kr_defs.specs.Sizes.{value_bytes}
 use Rattle.kr_defs.proofs.Maps.{length-filter_le}
-use Rattle.kr_defs.proofs.Tests.{Gives, gives_done, gives_refuse}
-use Rattle.law_batch_limits.specs.Fitting.{FitsBatch}
-use Rattle.law_batch_limits.proofs.FittingRecords.{requests_fit}
+use Rattle.kr_defs.proofs.Tests.{Gives, both, gives_done, gives_refuse}
+use Rattle.law_batch_limits.proofs.RequestLimits.{requests_bounded}
 use Rattle.kr_model.specs.Commit.{after_commit, commit, is_end}
 use Rattle.kr_model.specs.Entries.{entries_by, item_entries, items_from, log_entries}
 use Rattle.kr_model.specs.Events.{at_time_of, outcome}
 use Rattle.kr_model.specs.Lead.{after_lead, giving_up, in_lead, lead, may_begin_at, taking_over}
 use Rattle.kr_model.specs.Lost.{after_lost, cut, lost}
 use Rattle.kr_model.specs.Reasons as reasons
-use Rattle.kr_model.specs.Request.{after_ask, after_write, decision, is_decided, request}
-use Rattle.kr_model.specs.World.{State, World, image_of_tip, is_far, leads_in, tip_of, with_batch}
+use Rattle.kr_model.specs.Request.{after_ask, after_write, is_decided, request, write_items}
+use Rattle.kr_model.specs.World.{State, World, image_of_tip, is_far, leads_in, tip_of, with_all_batches}
 use Rattle.kr_model.proofs.Leaderships.{control_if, lead_written}
-use Rattle.kr_model.proofs.LogEntries.{batch_written, behind, cut_behind, none_behind}
+use Rattle.kr_model.proofs.LogEntries.{behind, cut_behind, cut_written, none_behind}
 use Rattle.kr_workload.specs.inner.Standing.{IsMade}
 use Rattle.kr_workload.specs.Summary.{is_record}
 
@@ -40,7 +43,7 @@ entries_long : (place : ℤ) (items : List Item) → length (item_entries place 
 entries_long place [] = refl
 entries_long place (item ∷ items) = ap (λ (n : ℕ). suc n) (entries_long (place +ℤ pos 1) items)
 
-few_entries : (place : ℤ) (items : List Item) → length items ≤ MOST_RECORDS → length (filter is_record (item_entries place items)) ≤ MOST_RECORDS
+few_entries : (place : ℤ) (items : List Item) → length items ≤ MOST_REQUEST_RECORDS + 2 → length (filter is_record (item_entries place items)) ≤ MOST_REQUEST_RECORDS + 2
 few_entries place items few =
     let fewer = length-filter_le is_record (item_entries place items) in
     let long = entries_long place items in
@@ -49,7 +52,7 @@ few_entries place items few =
 -- ---- a log that grows by few items
 
 record GrowsFew (log longer : Log) : Type 0 where
-  few : length (items_from longer (tip log)) ≤ MOST_RECORDS
+  few : length (items_from longer (tip log)) ≤ MOST_REQUEST_RECORDS + 2
 
 none_grown : (log : Log) → GrowsFew log log
 none_grown log = let e = ap (λ (l : List Item). length l) (none_behind log) in record { few = omega (arith, e) }
@@ -57,9 +60,9 @@ none_grown log = let e = ap (λ (l : List Item). length l) (none_behind log) in 
 cut_grown : (log : Log) (place : ℕ) → GrowsFew log (cut log place)
 cut_grown log place = let e = ap (λ (l : List Item). length l) (cut_behind log place) in record { few = omega (arith, e) }
 
-batch_grown : (w : World) (items : List Item) → length items ≤ MOST_RECORDS → GrowsFew w.log (with_batch w items).log
-batch_grown w items few =
-    let e = ap (λ (log : Log). length (items_from log (tip w.log))) (batch_written w items) ∙ ap (λ (l : List Item). length l) (behind w.log items) in
+batches_grown : (w : World) (items : List Item) → length items ≤ MOST_REQUEST_RECORDS + 2 → GrowsFew w.log (with_all_batches w (item_batches items)).log
+batches_grown w items few =
+    let e = ap (λ (log : Log). length (items_from log (tip w.log))) (cut_written w items) ∙ ap (λ (l : List Item). length l) (behind w.log items) in
     record { few = omega (arith, e, few) }
 
 -- an item of the quorum's own, and an abort
@@ -79,10 +82,12 @@ led_grown s epoch next =
 
 written_grown : (options : Options) (s : State) (request : Request) → GrowsFew s.world.log (after_write options s request).world.log
 written_grown options s request =
-    let records = (decision options s request).records in
-    let fits : FitsBatch records = requests_fit options s.basis (image_of_tip s) (pos (tip_of s)) request in
-    let long : length (as_items records) ≡ length records = length-map records (λ (r : Record). items.Record r) in
-    batch_grown s.world (as_items records) (omega (arith, long, fits.few))
+    let records = records_of_write options (image_of_tip s) s.basis request in
+    let at = pos (tip_of s) in
+    let all : List Record = records (place_taken records at) in
+    let within : is_request all ≡ true = requests_bounded options s.basis.time (heard s.basis) (image_of_tip s) (place_taken records at) request in
+    let few : length all ≤ MOST_REQUEST_RECORDS = leb-true (length all) MOST_REQUEST_RECORDS (both (nat_le (length all) MOST_REQUEST_RECORDS) (nat_le (sum_by value_bytes all) MOST_REQUEST_BYTES) within).0 in
+    batches_grown s.world (write_items options s request) (packed_few records at MOST_REQUEST_RECORDS few)
 
 asked_if : (b : Bool) (s after : State) → GrowsFew s.world.log after.world.log → GrowsFew s.world.log (cond b after s).world.log
 asked_if true s after grown = grown
@@ -127,7 +132,7 @@ module _ (options : Options) (s : State) where
   outcome_few (events.Tick now) made = absurd made
   outcome_few events.Image made = absurd made
 
-  added : (event : Event) → IsMade event → (r : Result State Reason) → Gives P r → length (filter is_record (entries_by s event r)) ≤ MOST_RECORDS
+  added : (event : Event) → IsMade event → (r : Result State Reason) → Gives P r → length (filter is_record (entries_by s event r)) ≤ MOST_REQUEST_RECORDS + 2
   added (events.Lead epoch next now) made (Ok after) gives = few_entries (pos (tip_of s)) _ (gives after refl).few
   added (events.Commit epoch end) made (Ok after) gives = few_entries (pos (tip_of s)) _ (gives after refl).few
   added (events.Lost epoch) made (Ok after) gives = few_entries (pos (tip_of s)) _ (gives after refl).few
@@ -138,8 +143,8 @@ module _ (options : Options) (s : State) where
   added events.Image made (Ok after) gives = absurd made
   added event made (Err reason) gives = omega arith
 
--- an event of a session adds no more records than a batch has
-pub few_records : (options : Options) (s : State) (event : Event) → IsMade event → length (filter is_record (log_entries options s event)) ≤ MOST_RECORDS
+-- an event of a session adds no more items than a request may give, and a begin and an end
+pub few_records : (options : Options) (s : State) (event : Event) → IsMade event → length (filter is_record (log_entries options s event)) ≤ MOST_REQUEST_RECORDS + 2
 few_records options s event made =
     let here = at_time_of s event in
     added options here event made (outcome options here event) (outcome_few options here event made)

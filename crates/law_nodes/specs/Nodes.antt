@@ -10,16 +10,17 @@ use Rattle.kr_calls.specs.declared.events.Reason.{Reason}
 use Rattle.kr_calls.specs.declared.calls.Ask.TheVariants as asks
 use Rattle.kr_calls.specs.declared.events.Event.TheVariants as events
 use Rattle.kr_calls.specs.declared.events.Output.TheVariants as given
+use Rattle.kr_calls.specs.Packed.{item_batches}
 use Rattle.kr_defs.specs.declared.options.Options.{Options}
 use Rattle.kr_defs.specs.declared.record.Item.{Item}
-use Rattle.kr_defs.specs.declared.record.Record.{Record}
+use Rattle.kr_defs.specs.ImageLaws.{as_items}
 use Rattle.kr_model.specs.declared.writes.Write.{Write}
 use Rattle.kr_model.specs.Events.{at_time_of, outcome, with_next_number}
 use Rattle.kr_model.specs.Outputs.{answers_now, is_open_in, next_batch, writes_of}
-use Rattle.kr_model.specs.Request.{decision, is_decided}
-use Rattle.kr_model.specs.Tick.{fence, fencing_of, lapsed_contacts}
+use Rattle.kr_model.specs.Request.{is_decided, write_items}
+use Rattle.kr_model.specs.Tick.{fence, fencing_items, lapsed_contacts}
 use Rattle.kr_model.specs.Lead.{giving_up, taking_over}
-use Rattle.kr_model.specs.World.{State, World, closed_of, image_of_tip, start}
+use Rattle.kr_model.specs.World.{State, World, closed_of, start, with_batch}
 use Rattle.law_nodes.specs.OneList.{list_items}
 
 -- a write that waits, and the items that were added with it
@@ -59,22 +60,27 @@ first_run nodes = record { nodes = replicate nodes fresh_node; list = []; electe
 
 -- ---- the batches that an event appends
 
-abbrev pub batch_for : State → List Record → List Batch
-batch_for s records = if length records == 0 then [] else next_batch s records ∷ []
+abbrev pub batch_for : State → List Item → List Batch
+batch_for s items = if length items == 0 then [] else next_batch s items ∷ []
 
--- one for each broker that is fenced
+-- each at the tip that those before it leave
+abbrev pub batches_behind : State → List (List Item) → List Batch
+batches_behind s [] = []
+batches_behind s (batch ∷ batches) = batch_for s batch ++ batches_behind (record s { world = with_batch s.world batch }) batches
+
+-- those of each broker that is fenced
 abbrev pub fencing_batches : Options → State → List ℤ → List Batch
 fencing_batches options s [] = []
 fencing_batches options s (broker ∷ brokers) =
-    batch_for s (fencing_of options (image_of_tip s) broker) ++ fencing_batches options (fence options s broker) brokers
+    batches_behind s (item_batches (fencing_items options s broker)) ++ fencing_batches options (fence options s broker) brokers
 
 abbrev pub batches_for : Options → State → Ask → List Batch
 batches_for options s (asks.Call call) =
-    if is_decided s.world (asks.Call call) then batch_for s (decision options s call.request).records else []
+    if is_decided s.world (asks.Call call) then batches_behind s (item_batches (write_items options s call.request)) else []
 batches_for options s (asks.Bare correlation fault) = []
 
 abbrev pub batches_of : Options → State → Event → List Batch
-batches_of options s (events.Lead epoch next now) = batch_for (taking_over s epoch next) (giving_up (taking_over s epoch next).world)
+batches_of options s (events.Lead epoch next now) = batch_for (taking_over s epoch next) (as_items (giving_up (taking_over s epoch next).world))
 batches_of options s (events.Tick now) = fencing_batches options s (lapsed_contacts options s)
 batches_of options s (events.Request client now ask) = batches_for options s ask
 batches_of options s other = []

@@ -5,7 +5,7 @@ use Rattle.kr_calls.specs.declared.calls.Ask.TheVariants as asks
 use Rattle.kr_calls.specs.declared.events.Event.{Event}
 use Rattle.kr_calls.specs.declared.events.Event.TheVariants as events
 use Rattle.kr_calls.specs.declared.events.Output.{Output}
-use Rattle.kr_defs.specs.declared.limits.TheConstants.{MOST_RECORDS}
+use Rattle.kr_defs.specs.declared.limits.TheConstants.{MOST_REQUEST_RECORDS}
 use Rattle.kr_session_loop.specs.inner.Serving.{Drains}
 use Rattle.kr_model.specs.Engine.{Core, Hands, IsEngine, IsSound, IsStep, outputs_left}
 use Rattle.kr_model.specs.Outputs.{waiting_writes}
@@ -56,9 +56,9 @@ IsMade (events.Lost epoch) = Unit {0}
 IsMade (events.Lead epoch next now) = Unit {0}
 IsMade other = ⊥
 
--- the counts are small: no event adds more records than a batch has, and of each event there is at most one reply, now or later
+-- the counts are small: no event adds more items than a request may give, and a begin and an end, and of each event there is at most one reply, now or later
 pub record AreFew (seed : ℕ) (events : List Event) (given : List (List Output)) : Type 0 where
-  pub records : event_records (options seed) start events ≤ length events * MOST_RECORDS
+  pub records : event_records (options seed) start events ≤ length events * (MOST_REQUEST_RECORDS + 2)
   pub replies : length (replies_of (flat_map (λ outputs. outputs) given)) + length (waiting_writes (options seed) events) ≤ length events
 
 pub record HasMade (seed : ℕ) (made : Made) (host : Host) : Type 0 where
