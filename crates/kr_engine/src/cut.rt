@@ -1,6 +1,6 @@
 //! How many items the first batch has into which items are cut.
 
-ghost use Rattle.std.specs.Prelude.{◌≡◌, ◌&&◌, ◌+◌, ◌<◌, ◌≤◌, ◌∷◌, drop, length, nat_le, take, IfSome, IsNone};
+ghost use Rattle.std.specs.Prelude.{◌≡◌, ◌&&◌, ◌+◌, ◌<◌, ◌≤◌, ◌∷◌, drop, false, length, nat_le, take, IfSome, IsNone};
 ghost use Rattle.kr_defs.specs.declared.limits.TheConstants.{MOST_BATCH_BYTES as most_bytes, MOST_RECORDS as most_records};
 ghost use Rattle.kr_defs.specs.Sizes as sizes;
 ghost use Rattle.kr_calls.specs.Packed as packing;

@@ -1,7 +1,7 @@
 -- What a step appends is safe.
 use Rattle.std.proofs.Common.{◌≡◌, ◌∙◌, sym, subst, ℕ, ◌+◌, ℤ, pos, Bool, true, false, cond, List, [], ◌∷◌, ◌++◌, refl, ap}
 use Rattle.std.proofs.lemmas.List.{append_assoc, append-nil}
-use Rattle.std.specs.Prelude.{◌+ℤ◌, ◌&&◌, Option, Some, None, Result, Ok, Err, IfOk, IsSome, not, int_lt, is_some, length}
+use Rattle.std.specs.Prelude.{◌+ℤ◌, ◌&&◌, Option, Some, None, Result, Ok, Err, IfOk, IsSome, not, int_lt, is_some, length, unsigned_abs}
 use Rattle.std.specs.Option.{option_map_or}
 use Rattle.std.specs.Ordering.{int_cmp, int_eq}
 use Rattle.std.specs.Result.{result_unwrap_or}
@@ -58,7 +58,7 @@ use Rattle.kr_model.proofs.PackedWrites.{state_closed}
 
 -- ---- items as entries
 
-anything : {X E : Type 0} (r : Result X E) → IfOk r (λ x. Unit {0})
+anything : (r : Result LogState Ill) → IfOk r (λ x. Unit {0})
 anything (Ok x) = tt
 anything (Err cause) = tt
 
@@ -104,7 +104,7 @@ module _ (exchange : Option Exchange) where
       (both_safe begun (record begun { image = after }) inner (place + 1) (item_entries (pos (place + 1) +ℤ pos (length inner)) last)
       (records_safe begun after records (place + 1) means safe)
       (plain_all inner begun (place + 1) after (as_records image records ∙ means))
-      (tt, anything _)))
+      (tt, anything (apply_at (record begun { image = after }) (unsigned_abs (pos (place + 1) +ℤ pos (length inner))) (items.Record kinds.EndTransaction)))))
 
   -- what is written of records that are safe where they are decided
   packed_safe : (image after : Image) (records : ℤ → List Record) (tip : ℤ) (place : ℕ) → apply_records image (records (place_taken records tip)) ≡ Ok after → AreSafe exchange image (records (place_taken records tip))
@@ -233,11 +233,14 @@ module _ (exchange : Option Exchange) (s : State) (event : Event) (state : LogSt
 abbrev abort_if : Bool → List Record
 abort_if c = cond c (kinds.AbortTransaction None ∷ []) []
 
+abbrev given_up : Item
+given_up = items.Record (kinds.AbortTransaction None)
+
 lead_items_safe : (state : LogState) (place : ℕ) (b c : Bool) → AreSafeEntries None state (item_entries (pos place) (control_if b ++ as_items (abort_if c)))
 unfolding apply apply_at
-lead_items_safe state place true true = (tt, anything _)
+lead_items_safe state place true true = (tt, anything (apply_at state place given_up))
 lead_items_safe state place true false = tt
-lead_items_safe state place false true = (tt, (tt, anything _))
+lead_items_safe state place false true = (tt, (tt, anything (apply_at (record state { image = state.image }) (unsigned_abs (pos place +ℤ pos 1)) given_up)))
 lead_items_safe state place false false = (tt, tt)
 
 safe_none : (exchange : Option Exchange) (state : LogState) (place : ℤ) (items : List Item) → items ≡ [] → AreSafeEntries exchange state (item_entries place items)
@@ -364,4 +367,4 @@ steps_are_safe before after event s writes k step own =
   where
     of_some : (o : Option ℤ) → is_some o ≡ true → IsSome o
     of_some None is = absurd cc
-    of_some (Some x) is = tt
+    of_some (Some x) is = refl
