@@ -8,7 +8,7 @@ use Rattle.law_link.specs.Links.{ArePossible, LinkStep, all_handed, no_web}
 abbrev pub LinksHandRight : Type 0
 LinksHandRight = (make : List Batch → List ℕ) (steps : List LinkStep) → ArePossible make no_web steps → AreAllowed make at_first (all_handed no_web steps)
 
--- Daemons that take it later take what they may then; and for the links all is as if they had daemon_moves it at once.
+-- Daemons that take it later take what they may then; and for the links all is as if they had taken it at once.
 abbrev pub LateFramesAreRight : Type 0
 LateFramesAreRight = (make : List Batch → List ℕ) (steps : List NetworkStep) → AllMayHappen make no_network steps
     → AreAllowed make at_first (all_daemon_moves no_network steps) × ArePossible make no_web (all_link_steps no_network steps)
