@@ -105,3 +105,9 @@ onward_without_memory mid new message (for_ask same) = subst (λ (c : Client). O
 onward_without_memory mid new message (for_write r) = r.told.onward
 onward_without_memory mid new message (for_read r) = r.told.onward
 onward_without_memory mid new message (for_exchange x asked is) = onward_by mid new x is
+
+pub misses_without_memory : (mid new : Client) (message : List ℕ) → IsWithoutMemory mid new message → MayRise mid.misses new.misses
+misses_without_memory mid new message (for_ask same) = inl (ap (λ (c : Client). c.misses) same)
+misses_without_memory mid new message (for_write r) = r.told.misses
+misses_without_memory mid new message (for_read r) = inl r.told.cause
+misses_without_memory mid new message (for_exchange x asked is) = misses_by mid new x is
