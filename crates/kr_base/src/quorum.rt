@@ -17,11 +17,13 @@ pub trait Quorum {
     /// How many appends have failed; the count stands still at the greatest u64.
     ghost faults: { Self → ℕ };
 
-    /// Appends the piece, which is one record batch. A failed append leaves what was appended as it was.
+    /// Appends the piece, which is one record batch. A failed append leaves what was appended as it was; one that doesn't fail
+    /// leaves the count of faults.
     fn append(&mut self, bytes: &[u8]) -> Result<(), Failed>
         ensures ok { OnOk result (pieces self.new ≡ with_piece (pieces self.old) bytes.now) }
         ensures err { OnErr result (pieces self.new ≡ pieces self.old) }
-        ensures cause { HasCause (faults self.old) (faults self.new) result };
+        ensures cause { HasCause (faults self.old) (faults self.new) result }
+        ensures still { OnOk result (faults self.new ≡ faults self.old) };
 
     /// How many appends have failed.
     fn faults(&self) -> u64
@@ -129,6 +131,7 @@ impl Quorum for MemoryQuorum {
         ensures ok { OnOk result (self.new.pieces ≡ self.old.pieces ++ bytes.now ∷ []) }
         ensures err { OnErr result (self.new.pieces ≡ self.old.pieces) }
         ensures cause { HasCause self.old.faults self.new.faults result }
+        ensures still { OnOk result (self.new.faults ≡ self.old.faults) }
         ensures fails { IsOk result ↔ IsTrue (accepts self.old (length bytes.now)) }
         ensures calls { self.new.calls ≡ raised self.old.calls }
         ensures failing { self.new.failing ≡ self.old.failing }

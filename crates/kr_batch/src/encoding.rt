@@ -4,6 +4,7 @@ ghost use Rattle.std.specs.Prelude.{◌≡◌, pos, ◌≤ℤ◌, ◌+◌, ◌-�
 ghost use Rattle.std.specs.Int.{w64};
 ghost use Rattle.std.specs.List.{All};
 ghost use Rattle.kr_defs.specs.declared.limits.TheConstants.{MOST_RECORDS};
+ghost use Rattle.kr_layout.specs.Answers.{Begins};
 ghost use Rattle.kr_wire.specs.Spelling.{varint32};
 ghost use Rattle.kr_record.specs.Encodable.{IsEncodable};
 ghost use Rattle.kr_record.specs.Spelling.{record_value};
@@ -197,7 +198,8 @@ fn put_item(delta: u32, item: &Item, value: &mut Vec<u8>, out: &mut Vec<u8>) -> 
     }
 }
 
-/// Appends a record as it stands in a batch, where it has this number. Without memory some front of it may be appended.
+/// Appends a record as it stands in a batch, where it has this number. Without memory what there was stays, and perhaps more
+/// behind it.
 /// `value` is room that is used again, whatever it has: a value of another length than the one there foretells is
 /// written to it first.
 pub fn put_numbered(
@@ -209,8 +211,9 @@ pub fn put_numbered(
     requires delta { delta < MOST_RECORDS }
     requires encodable { IsEncodable record.now }
     requires small { length (record_value record.now) < VALUES_END }
-    ensures { OnOk result (out.new.items ≡
+    ensures ok { OnOk result (out.new.items ≡
         out.old.items ++ record_bytes delta (record_value record.now)) }
+    ensures err { OnErr result (Begins out.old.items out.new.items) }
 {
     // This value most likely is as long as the last one that was written there.
     let is_placed = match value.len() {
@@ -240,8 +243,9 @@ fn put_placed(
     requires encodable { IsEncodable record.now }
     requires some { 1 ≤ width }
     requires few { width ≤ 2 }
-    ensures { IfOk result (λ is_so. out.new.items ≡
+    ensures ok { IfOk result (λ is_so. out.new.items ≡
         (if is_so then out.old.items ++ record_bytes delta (record_value record.now) else out.old.items)) }
+    ensures err { OnErr result (Begins out.old.items out.new.items) }
 {
     let start = out.as_slice().len();
     put_bytes(out, &[0, 0, 0, 0][..width + 2])?;
@@ -285,7 +289,8 @@ fn set_length(out: &mut Vec<u8>, at: usize, width: usize, len: u32)
 fn put_record(delta: u32, value: &[u8], out: &mut Vec<u8>) -> Result<(), AllocError>
     requires delta { delta < MOST_RECORDS }
     requires value { length value.now < VALUES_END }
-    ensures { OnOk result (out.new.items ≡ out.old.items ++ record_bytes delta value.now) }
+    ensures ok { OnOk result (out.new.items ≡ out.old.items ++ record_bytes delta value.now) }
+    ensures err { OnErr result (Begins out.old.items out.new.items) }
 {
     record_front(delta, value).put(out)?;
     out.extend_from_slice(value)?;

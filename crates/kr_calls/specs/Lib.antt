@@ -9,6 +9,7 @@ pub mod Deciding
 pub mod DeleteTopics
 pub mod ElectLeaders
 pub mod IncrementalAlterConfigs
+pub mod LinkEvents
 pub mod ListPartitionReassignments
 pub mod MeaningLaws
 pub mod Metadata

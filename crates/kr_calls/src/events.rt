@@ -56,6 +56,21 @@ pub enum Event {
     Image,
 }
 
+impl Event {
+    ghost use Rattle.std.specs.Prelude.{◌≡◌};
+    ghost use Rattle.kr_calls.specs.LinkEvents as links;
+
+    /// Whether a link brings it: no request, and no question for the image.
+    pub fn is_of_link(&self) -> bool
+        ensures { result ≡ links.is_link_event self.now }
+    {
+        match self {
+            Event::Request { .. } | Event::Image => false,
+            _ => true,
+        }
+    }
+}
+
 /// Why an event is refused. Kafka has no such reasons, they are this controller's own; each has a number in a frame.
 #[derive(Clone, Copy, Debug, Drop, PartialEq, Eq, Error)]
 pub enum Reason {

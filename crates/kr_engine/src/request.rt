@@ -3,7 +3,6 @@
 ghost use Rattle.std.specs.Prelude.{◌≡◌, ◌≤◌, ℤ, [], length, IfOk, OnOk, OnErr, Ok, IsSome, IsTrue};
 ghost use Rattle.kr_defs.specs.Heartbeats.{is_not_before, stopping_brokers};
 ghost use Rattle.kr_defs.specs.Ids.{has};
-ghost use Rattle.kr_calls.specs.Decide as rules;
 ghost use Rattle.kr_calls.specs.NextBasis.{broker_is_stopping, heartbeats_after};
 ghost use Rattle.kr_calls.specs.Refuse as refusals;
 ghost use Rattle.kr_calls.specs.declared.errors.TheConstants.{NOT_CONTROLLER as not_controller};
@@ -59,21 +58,11 @@ fn bare_reply(fault: &AskFault) -> Reply
     }
 }
 
-// It changes nothing.
-fn is_read(request: &Request) -> bool
-    ensures { result ≡ rules.is_read request.now }
-{
-    match request {
-        Request::ListPartitionReassignments(_) | Request::Metadata(_) => true,
-        _ => false,
-    }
-}
-
 // A write, while this node leads.
 fn is_led_write(leading: &Option<i32>, request: &Request) -> bool
     ensures { result ≡ is_led_write leading.now request.now }
 {
-    leading.is_some() && !is_read(request)
+    leading.is_some() && !request.is_read()
 }
 
 // The image is kept, so a read wants memory alone.

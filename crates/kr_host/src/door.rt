@@ -1,7 +1,7 @@
 //! Where clients and events come in.
 
 ghost use Rattle.std.specs.Prelude.{◌≡◌, IfErr, IsTrue};
-ghost use Rattle.kr_queue.specs.Jobs.{is_link_event};
+ghost use Rattle.kr_calls.specs.LinkEvents.{is_link_event};
 ghost use Rattle.kr_host.specs.Unpushed.{event_back};
 
 use crate::event_seat::{EventSeat, Unpushed};

@@ -2,7 +2,7 @@
 
 ghost use Rattle.std.specs.Prelude.{◌≡◌, ◌++◌, ◌∷◌, [], IfErr, OnErr, OnOk, IsTrue};
 ghost use Rattle.kr_queue.specs.declared.jobs.Job.TheVariants as jobs;
-ghost use Rattle.kr_queue.specs.Jobs.{is_link_event};
+ghost use Rattle.kr_calls.specs.LinkEvents.{is_link_event};
 ghost use Rattle.kr_flow.specs.Rooms.{room_noted};
 ghost use Rattle.kr_host.specs.Seats.{IsPushed, number_noted};
 ghost use Rattle.kr_host.specs.Unpushed.{event_back};

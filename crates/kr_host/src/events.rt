@@ -1,7 +1,7 @@
 //! The events that the link's seat takes.
 
 ghost use Rattle.std.specs.Prelude.{◌≡◌, ◌+◌, ◌<◌, ◌^◌, false, IfSome, IfNone, IsTrue};
-ghost use Rattle.kr_queue.specs.Jobs.{is_link_event};
+ghost use Rattle.kr_calls.specs.LinkEvents.{is_link_event};
 ghost use Rattle.kr_host.specs.Weights as weights;
 
 use kr_calls::Event;
@@ -25,10 +25,7 @@ pub(crate) fn link_event(event: Event) -> Option<Event>
     ensures some { IfSome result (λ e. (e ≡ event) × IsTrue (is_link_event event)) }
     ensures none { IfNone result (is_link_event event ≡ false) }
 {
-    match event {
-        Event::Request { .. } | Event::Image => None,
-        event => Some(event),
-    }
+    if event.is_of_link() { Some(event) } else { None }
 }
 
 // How many bytes an event brings.

@@ -1,6 +1,6 @@
 //! A quorum of this process alone.
 
-ghost use Rattle.std.specs.Prelude.{◌≡◌, ◌∷◌, [], ◌↔◌, drop, IfOk, IfSome, IsOk, IsSome, MatchOption};
+ghost use Rattle.std.specs.Prelude.{◌≡◌, ◌∷◌, [], ◌↔◌, drop, IfOk, IfSome, IsOk, IsSome, MatchOption, OnOk};
 ghost use Rattle.kr_base.specs.Causes.{HasCause};
 ghost use Rattle.kr_local.specs.Appends.{IsInLog, after_taking, commit_of, due_after, heading_taken, opened};
 ghost use Rattle.kr_local.specs.Plans.{after_append};
@@ -118,6 +118,7 @@ impl Quorum for LocalQuorum {
     /// (`kr_batch::head`). It takes no memory.
     fn append(&mut self, bytes: &[u8]) -> Result<(), Failed>
         ensures cause { HasCause self.old.faults self.new.faults result }
+        ensures still { OnOk result (self.new.faults ≡ self.old.faults) }
         ensures fails { IsOk result ↔ IsSome (heading_taken self.old bytes.now) }
         ensures state { self.new ≡ after_taking self.old (heading_taken self.old bytes.now) }
     {

@@ -1,8 +1,7 @@
 -- Whose a job is, and which jobs may be pushed. This project's own.
 use Rattle.std.specs.Prelude.{◌&&◌, ◌==◌, Bool, true, false, not, List, filter}
-use Rattle.kr_calls.specs.declared.events.Event.{Event}
-use Rattle.kr_calls.specs.declared.events.Event.TheVariants as events
 use Rattle.kr_calls.specs.Decide.{is_read}
+pub use Rattle.kr_calls.specs.LinkEvents.{is_link_event}
 use Rattle.kr_queue.specs.declared.jobs.Job.{Job}
 use Rattle.kr_queue.specs.declared.jobs.Job.TheVariants as jobs
 use Rattle.kr_queue.specs.declared.passes.Role.{Role}
@@ -20,12 +19,6 @@ is_of role job = false
 -- the jobs of the role, in order
 abbrev pub of : Role → List Job → List Job
 of role jobs = filter (is_of role) jobs
-
--- requests come as writes, and the image isn't asked for through the queue
-abbrev pub is_link_event : Event → Bool
-is_link_event (events.Request client now ask) = false
-is_link_event events.Image = false
-is_link_event event = true
 
 -- what the link brings is no request, and what a client brings is no read
 abbrev pub is_fit : Job → Bool

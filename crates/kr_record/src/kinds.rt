@@ -1,7 +1,8 @@
 //! The kinds of records.
 
-ghost use Rattle.std.specs.Prelude.{◌≡◌, ◌≢◌, ◌++◌, OnOk};
+ghost use Rattle.std.specs.Prelude.{◌≡◌, ◌≢◌, ◌++◌, OnErr, OnOk};
 ghost use Rattle.kr_defs.specs.declared.record.Record.TheVariants as variants;
+ghost use Rattle.kr_layout.specs.Answers.{Begins};
 ghost use Rattle.kr_record.specs.Answers.{GivesFront};
 ghost use Rattle.kr_record.specs.Encodable.{IsEncodable, IsHeld};
 ghost use Rattle.kr_record.specs.Reading.{kind_at, layout_at, served_at};
@@ -257,10 +258,11 @@ fn read_version<P: Parts>(
     Ok(P::read(from, version)?)
 }
 
-/// Appends the record's written form. Without memory some front of it may be appended.
+/// Appends the record's written form. Without memory what there was stays, and perhaps more behind it.
 pub fn append(value: &Record, out: &mut Vec<u8>) -> Result<(), NoMemory>
     requires { IsEncodable value.now }
-    ensures { OnOk result (out.new.items ≡ out.old.items ++ record_value value.now) }
+    ensures ok { OnOk result (out.new.items ≡ out.old.items ++ record_value value.now) }
+    ensures err { OnErr result (Begins out.old.items out.new.items) }
 {
     if let Record::PartitionChange {
         index,
@@ -278,7 +280,8 @@ pub fn append(value: &Record, out: &mut Vec<u8>) -> Result<(), NoMemory>
 #[inline(never)]
 fn append_any(value: &Record, out: &mut Vec<u8>) -> Result<(), NoMemory>
     requires { IsEncodable value.now }
-    ensures { OnOk result (out.new.items ≡ out.old.items ++ record_value value.now) }
+    ensures ok { OnOk result (out.new.items ≡ out.old.items ++ record_value value.now) }
+    ensures err { OnErr result (Begins out.old.items out.new.items) }
 {
     each_kind!(writing(value, out))
 }
@@ -290,8 +293,9 @@ fn put_partition_change(
     change: &PartitionChange,
     out: &mut Vec<u8>,
 ) -> Result<(), NoMemory>
-    ensures { OnOk result (out.new.items ≡
+    ensures ok { OnOk result (out.new.items ≡
         out.old.items ++ record_value (variants.PartitionChange index topic change.now)) }
+    ensures err { OnErr result (Begins out.old.items out.new.items) }
 {
     each_kind!(writing_change(index, topic, change, out))
 }
@@ -299,7 +303,9 @@ fn put_partition_change(
 // The frame version, the key and the version of a record, and what stands in it.
 #[tactic(auto, unfolding(crate::specs::Spelling::framed))]
 fn put_kind<P: Pieces>(out: &mut Vec<u8>, key: u32, version: u32, parts: &P) -> Result<(), NoMemory>
-    ensures { OnOk result (out.new.items ≡ out.old.items ++ (framed key version ++ P.bytes parts.now)) }
+    ensures ok { OnOk result (out.new.items ≡
+        out.old.items ++ (framed key version ++ P.bytes parts.now)) }
+    ensures err { OnErr result (Begins out.old.items out.new.items) }
 {
     put_uvarint(out, 1)?;
     put_uvarint(out, key)?;

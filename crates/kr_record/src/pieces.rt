@@ -1,7 +1,8 @@
 //! Values that are written one after the other, as nested pairs of what holds them.
 
-ghost use Rattle.std.specs.Prelude.{◌≡◌, ℕ, ◌++◌, List, [], length, OnOk, IfOk};
+ghost use Rattle.std.specs.Prelude.{◌≡◌, ℕ, ◌++◌, List, [], length, OnOk, OnErr, IfOk};
 ghost use Rattle.std.specs.List.{flat_map};
+ghost use Rattle.kr_layout.specs.Answers.{Begins};
 ghost use Rattle.kr_wire.specs.Schema.{Boolean, End, written};
 ghost use Rattle.kr_wire.specs.Spelling.{field, id, list, tagged, tags};
 ghost use Rattle.kr_wire.specs.Tables as tables;
@@ -21,7 +22,8 @@ pub(crate) trait Pieces {
 
     /// Appends what is written for the parts. Without memory some front of it may be appended.
     fn put_pieces(&self, out: &mut Vec<u8>) -> Result<(), NoMemory>
-        ensures { OnOk result (out.new.items ≡ out.old.items ++ bytes self.now) };
+        ensures ok { OnOk result (out.new.items ≡ out.old.items ++ bytes self.now) }
+        ensures err { OnErr result (Begins out.old.items out.new.items) };
 }
 
 impl Pieces for () {
@@ -71,7 +73,9 @@ impl<'a, const FIRST: u32, M: Pieces, B: Pieces> Pieces for ((Since<FIRST, &'a I
 // One all-zero id per replica.
 #[tactic(auto, using(crate::proofs::LayoutForms::one_zero_more))]
 fn put_directories(out: &mut Vec<u8>, replicas: &Ids) -> Result<(), NoMemory>
-    ensures { OnOk result (out.new.items ≡ out.old.items ++ list id (no_directories replicas.now)) }
+    ensures ok { OnOk result (out.new.items ≡
+        out.old.items ++ list id (no_directories replicas.now)) }
+    ensures err { OnErr result (Begins out.old.items out.new.items) }
 {
     if replicas.len() >= 1 << 31 {
         return Err(NoMemory);
@@ -103,7 +107,9 @@ pub(crate) trait FieldPieces {
         ensures { IfOk result (λ n. n ≡ length (fields self.now)) };
 
     fn put_fields(&self, out: &mut Vec<u8>) -> Result<(), NoMemory>
-        ensures { OnOk result (out.new.items ≡ out.old.items ++ flat_map field (fields self.now)) };
+        ensures ok { OnOk result (out.new.items ≡
+            out.old.items ++ flat_map field (fields self.now)) }
+        ensures err { OnErr result (Begins out.old.items out.new.items) };
 }
 
 impl FieldPieces for () {
@@ -137,7 +143,8 @@ impl<'a, const TAG: u32, const FIRST: u32, P: TaggedPart, F: FieldPieces> FieldP
 }
 
 fn put_field<P: TaggedPart>(out: &mut Vec<u8>, tag: u32, part: &P) -> Result<(), NoMemory>
-    ensures { OnOk result (out.new.items ≡ out.old.items ++ flat_map field (tagged tag (written_data P.part part.now))) }
+    ensures ok { OnOk result (out.new.items ≡ out.old.items ++ flat_map field (tagged tag (written_data P.part part.now))) }
+    ensures err { OnErr result (Begins out.old.items out.new.items) }
 {
     match part.data() {
         None => Ok(()),

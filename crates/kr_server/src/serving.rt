@@ -3,6 +3,7 @@
 ghost use Rattle.std.specs.Prelude.{◌≡◌, ◌<◌, ◌≤◌, IfOk, IsErrOf, None, length};
 ghost use Rattle.kr_base.specs.Causes.{Rose};
 ghost use Rattle.kr_defs.specs.declared.limits.TheConstants.{MOST_SESSION_BYTES};
+ghost use Rattle.kr_shared.specs.Clients.{MayRise};
 ghost use Rattle.kr_view.specs.Seats.{Onward};
 ghost use Rattle.kr_shared.specs.declared.places.TheConstants.{MOST_PLACES};
 ghost use Rattle.kr_server.specs.Served.{LeavesNone, ServesClient, ServesMessages, ServesToEnd, ServesUpToBreak, WhereNoneRose};
@@ -119,6 +120,8 @@ fn serve_messages<R: Wait, S: Source, K: Sink, T: Transcript>(
     ensures places { KeepsPlaces seat.old paging.old.held seat.new paging.new.held }
     ensures read { result ≡ ServeEnd.ReadFault → Rose (S.faults source.old) (S.faults source.new) }
     ensures write { result ≡ ServeEnd.WriteFault → Rose (K.faults sink.old) (K.faults sink.new) }
+    ensures source_later { S.faults source.old ≤ S.faults source.new }
+    ensures sink_later { K.faults sink.old ≤ K.faults sink.new }
 {
     let mut at = 0;
     loop {
@@ -155,6 +158,10 @@ pub fn serve_client<R: Wait, S: Source, K: Sink, T: Transcript>(
     ensures read { result ≡ ServeEnd.ReadFault → Rose (S.faults source.old) (S.faults source.new) }
     ensures write { result ≡ ServeEnd.WriteFault → Rose (K.faults sink.old) (K.faults sink.new) }
     ensures copy { result ≡ ServeEnd.NoCopy → Rose seat.old.misses seat.new.misses }
+    // None of these counts falls.
+    ensures source_later { S.faults source.old ≤ S.faults source.new }
+    ensures sink_later { K.faults sink.old ≤ K.faults sink.new }
+    ensures misses { MayRise seat.old.misses seat.new.misses }
 
     // Where no count rose: whole messages are served out, and others up to where they break.
     ensures complete { WhereNoneRose S.faults K.faults source.old source.new sink.old sink.new

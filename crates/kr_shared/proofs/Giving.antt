@@ -22,7 +22,7 @@ pub nothing_given : (e : Core) (pieces : Option (List (List ℕ))) (faults : ℕ
 nothing_given e pieces faults l = record {
   told = [];
   front = nothing_yet e;
-  gives = record { appends = (refl, omega arith); refused = refl; reply = refl; answers = refl; fewer = omega arith; same = refl };
+  gives = record { appends = (refl, refl); refused = refl; reply = refl; answers = refl; fewer = omega arith; same = refl };
 }
 
 pub one_given : (before now after : Core) (pieces mid pieces' : Option (List (List ℕ))) (faults then faults' : ℕ) (old between new : LineView) (g g' : Given) (t : Told)

@@ -16,7 +16,7 @@ use Rattle.kr_calls.specs.declared.events.Reason.{Reason}
 use Rattle.kr_defs.specs.declared.options.Options.{Options}
 use Rattle.kr_defs.specs.declared.record.Record.{Record}
 use Rattle.kr_defs.specs.Log.{Log}
-use Rattle.kr_queue.specs.Jobs.{is_link_event}
+use Rattle.kr_calls.specs.LinkEvents.{is_link_event}
 use Rattle.kr_model.specs.declared.writes.Told.{Told}
 use Rattle.kr_model.specs.declared.writes.Write.{Write}
 use Rattle.kr_model.specs.Engine.{writes_in_order}

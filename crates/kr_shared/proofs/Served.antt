@@ -15,7 +15,7 @@ use Rattle.kr_defs.specs.Log.{Log, tip}
 use Rattle.kr_defs.specs.Records.{records_of}
 use Rattle.kr_defs.proofs.OwnRecords.{own_records}
 use Rattle.kr_defs.proofs.StateLogs.{closed_end_between}
-use Rattle.kr_queue.specs.Jobs.{is_link_event}
+use Rattle.kr_calls.specs.LinkEvents.{is_link_event}
 use Rattle.kr_view.specs.Shelves.{Shelf}
 use Rattle.kr_view.specs.Staged.{staged_below}
 use Rattle.kr_model.specs.declared.writes.Told.{Told}

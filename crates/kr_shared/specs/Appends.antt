@@ -38,13 +38,13 @@ pub record FailsAt (old new : Option (List (List ℕ))) (faults faults' : ℕ) (
   pub pieces : new ≡ with_batches old before
   pub cause : Rose faults faults'
 
--- the quorum got all batches of the outputs, or those before the first that failed
+-- the quorum got all batches of the outputs, and no append failed; or it got those before the first that failed
 abbrev pub Appends : Option (List (List ℕ)) → Option (List (List ℕ)) → ℕ → ℕ → List Told → Bool → Type 0
-Appends old new faults faults' told true = (new ≡ with_batches old told) × (faults ≤ faults')
+Appends old new faults faults' told true = (new ≡ with_batches old told) × (faults' ≡ faults)
 Appends old new faults faults' told false = FailsAt old new faults faults' told
 
 abbrev pub AppendsOne : Option (List (List ℕ)) → Option (List (List ℕ)) → ℕ → ℕ → Told → Bool → Type 0
-AppendsOne old new faults faults' told true = (new ≡ with_told_batch old told) × (faults ≤ faults')
+AppendsOne old new faults faults' told true = (new ≡ with_told_batch old told) × (faults' ≡ faults)
 AppendsOne old new faults faults' told false = IsSome (batch_told told) × (new ≡ old) × Rose faults faults' × (faults ≤ faults')
 
 -- after one that failed no other is given

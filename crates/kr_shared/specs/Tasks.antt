@@ -6,7 +6,7 @@ use Rattle.kr_calls.specs.declared.calls.Call.{Call}
 use Rattle.kr_calls.specs.declared.events.Event.{Event}
 use Rattle.kr_calls.specs.declared.events.Event.TheVariants as events
 use Rattle.kr_calls.specs.Decide.{is_read}
-use Rattle.kr_queue.specs.Jobs.{is_link_event}
+use Rattle.kr_calls.specs.LinkEvents.{is_link_event}
 use Rattle.kr_defs.specs.declared.basis.Basis.{Basis}
 use Rattle.kr_model.specs.Engine.{Core, basis_of}
 use Rattle.kr_shared.specs.declared.answers.Asking.{Asking}

@@ -199,6 +199,8 @@ pub fn write_image<K: Sink>(
     ensures rose { IsErrOf result faults.WriteFault →
         Rose (K.faults sink.old) (K.faults sink.new) }
     ensures misses { HasMiss seat.old.misses seat.new.misses result }
+    // The sink's count never falls.
+    ensures later { K.faults sink.old ≤ K.faults sink.new }
 {
     let mut walk = Walk::begin(seat, place)?;
     write_walk(alloc, seat, &mut walk, sink)

@@ -4,7 +4,7 @@ ghost use Rattle.std.specs.Prelude.{◌≡◌, ◌++◌, ◌∷◌, [], IfErr, O
 ghost use Rattle.std.specs.Arc.{arc_value};
 ghost use Rattle.kr_queue.specs.declared.jobs.Job.TheVariants as jobs;
 ghost use Rattle.kr_queue.specs.declared.passes.Role.TheVariants as roles;
-ghost use Rattle.kr_queue.specs.Jobs.{is_link_event};
+ghost use Rattle.kr_calls.specs.LinkEvents.{is_link_event};
 ghost use Rattle.kr_queue.specs.Passes.{view, IsPassOf};
 ghost use Rattle.kr_queue.specs.QueueRule.{a_pass};
 

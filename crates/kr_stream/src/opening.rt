@@ -1,7 +1,6 @@
 //! The body of an Open frame.
 
-ghost use Rattle.std.specs.Prelude.{◌≡◌, ◌≤◌, pos, [], length, drop, IfOk, IsErrOf, IsUtf8, IsTrue, ◌↔◌, Ok, Err, MatchResult, ◌&&◌, nat_lt, nat_le, int_le};
-ghost use Rattle.kr_defs.specs.declared.limits.TheConstants.{MOST_DEFAULT_PARTITIONS, MOST_TARGETS, LONGEST_CLUSTER};
+ghost use Rattle.std.specs.Prelude.{◌≡◌, ◌≤◌, pos, [], length, drop, IfOk, IsErrOf, IsUtf8, IsTrue, ◌↔◌, Ok, Err, MatchResult};
 ghost use Rattle.kr_defs.specs.OpenOptions as opening;
 ghost use Rattle.kr_defs.specs.Partition.{is_natural};
 ghost use Rattle.kr_defs.specs.declared.options.Options.{Options as AnyOptions};
@@ -9,7 +8,6 @@ ghost use Rattle.kr_stream.specs.Frames.{IsOptions};
 ghost use Rattle.kr_stream.specs.inner.Bodies.{options_at, options_with};
 
 use crate::bodies::BodyFault;
-use kr_defs::limits::{LONGEST_CLUSTER, MOST_DEFAULT_PARTITIONS, MOST_TARGETS};
 use kr_defs::{Options, Text};
 use kr_wire::{WireFault, read_i16, read_i32, read_i64, read_u32, read_u64};
 use std::alloc::Global;
@@ -87,35 +85,10 @@ fn options_with(alloc: Global, o: Opening, cluster: &[u8]) -> Result<Options, Bo
             cluster,
         },
     };
-    if !are_options(&options) {
+    if !options.is_fit() {
         return Err(BodyFault::Misfit);
     }
     Ok(options)
-}
-
-// A controller may be started with these.
-fn are_options(o: &Options) -> bool
-    ensures { result ≡ opening.are_options o.now }
-{
-    o.node >= 0
-        && 0 < o.session_ms
-        && has_partitions(&o.partitions)
-        && has_factor(&o.factor)
-        && o.minimum >= 1
-        && o.cluster.as_bytes().len() <= LONGEST_CLUSTER
-}
-
-fn has_partitions(partitions: &i32) -> bool
-    ensures { result ≡
-        (int_le (pos 1) partitions.now && int_le partitions.now MOST_DEFAULT_PARTITIONS) }
-{
-    1 <= *partitions && *partitions <= MOST_DEFAULT_PARTITIONS
-}
-
-fn has_factor(factor: &i16) -> bool
-    ensures { result ≡ (int_le (pos 1) factor.now && int_le factor.now (pos MOST_TARGETS)) }
-{
-    1 <= *factor && *factor <= MOST_TARGETS as i16
 }
 
 fn is_text(bytes: &[u8]) -> bool

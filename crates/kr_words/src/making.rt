@@ -1,8 +1,8 @@
 //! The words `make` and `nodes`.
 
-ghost use Rattle.std.specs.Prelude.{◌≡◌, ◌≤◌, IfOk, IsErrOf, OnErr, string_bytes};
+ghost use Rattle.std.specs.Prelude.{◌≡◌, ◌≤◌, IfOk, IsErrOf, OnErr, OnOk, string_bytes};
 ghost use Rattle.kr_base.specs.Causes.{Rose, Still};
-ghost use Rattle.kr_words.specs.Making.{MakesWhole, WritesOneText, make_text, nodes_text};
+ghost use Rattle.kr_words.specs.Making.{AllAnswered, MakesWhole, WritesOneText, make_text, nodes_text};
 
 use kr_base::{NoMemory, Sink};
 use kr_drive::drive;
@@ -12,7 +12,8 @@ use std::alloc::Global;
 
 // The six lines of the session of this number.
 fn make_lines(alloc: Global, seed: u32) -> Result<String, NoMemory>
-    ensures { IfOk result (λ text. string_bytes text ≡ make_text seed) }
+    ensures text { IfOk result (λ text. string_bytes text ≡ make_text seed) }
+    ensures answered { OnOk result (AllAnswered seed) }
 {
     let summary = make(alloc, seed, 2000)?;
     Ok(summary_text(alloc, &summary)?)
@@ -53,6 +54,7 @@ pub(crate) fn write_summary<K: Sink>(
         Rose (K.faults output.old) (K.faults output.new) }
     ensures complete { Still (K.faults output.old) (K.faults output.new) → MakesWhole result }
     ensures read { IsErrOf result ToolFault.ReadFault → ⊥ }
+    ensures answered { OnOk result (AllAnswered seed) }
 {
     let text = make_lines(alloc, seed)?;
     write_text(&text, output)

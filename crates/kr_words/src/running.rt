@@ -8,7 +8,7 @@ ghost use Rattle.kr_session_loop.specs.Endings.{BreaksRightly, EndsWith, Refuses
 ghost use Rattle.kr_fold.specs.Endings.{DumpEnds, DumpsWhole, FoldEnds, FoldsNoMore, FoldsWhole, RefusesBroken as RefusesBrokenImage, RefusesLonger};
 ghost use Rattle.kr_leaders.specs.Endings.{BalanceEnds, BalancesWhole, RefusesPast};
 ghost use Rattle.kr_words.specs.Notes as notes;
-ghost use Rattle.kr_words.specs.Making.{MakeEnds, MakesWhole, NodesEnds};
+ghost use Rattle.kr_words.specs.Making.{AllAnswered, MakeEnds, MakesWhole, NodesEnds};
 ghost use Rattle.kr_words.specs.Notes.{AreServed, IsBalance, IsDump, IsFold, IsMake, IsNodes, IsOf, IsSession, note_of, line, IsMalformed};
 
 use crate::making::{write_nodes, write_summary};
@@ -91,6 +91,10 @@ pub fn run<S: Source, K: Sink, E: Sink>(
         Still (K.faults output.old) (K.faults output.new) → IsOf MakesWhole result }
     ensures nodes_complete { (seed : ℕ) → IsNodes words.now seed →
         Still (K.faults output.old) (K.faults output.new) → IsOf MakesWhole result }
+
+    // Of the number's session the lines count each request once, as answered without an error or with one.
+    ensures make_answered { (seed : ℕ) → IsMake words.now seed → result ≡ Status.Done →
+        AllAnswered seed }
 
     // Likewise an image is balanced, or refused: also where it is past the last place at which a leader begins.
     ensures balance_complete { (percent : ℕ) → IsBalance words.now percent →
@@ -194,6 +198,8 @@ fn serve_words<S: Source, K: Sink>(
         Still (K.faults output.old) (K.faults output.new) → IsOf MakesWhole result }
     ensures nodes_complete { (seed : ℕ) → IsNodes words.now seed →
         Still (K.faults output.old) (K.faults output.new) → IsOf MakesWhole result }
+    ensures make_answered { (seed : ℕ) → IsMake words.now seed → result ≡ Status.Done →
+        AllAnswered seed }
     ensures balance_complete { (percent : ℕ) → IsBalance words.now percent →
         Still (S.faults input.old) (S.faults input.new) →
         Still (K.faults output.old) (K.faults output.new) →

@@ -1,8 +1,9 @@
 -- An event of a session adds few records.
-use Rattle.std.proofs.Common.{◌≡◌, ◌≤◌, ℕ, suc, ℤ, pos, Bool, true, false, cond, List, [], ◌∷◌, ◌++◌, length, refl, ap, ◌∙◌, arith}
-use Rattle.std.proofs.lemmas.List.{length-map}
+use Rattle.std.proofs.Common.{◌≡◌, ◌≤◌, ◌+◌, ◌-◌, ℕ, suc, ℤ, pos, Bool, true, false, cond, List, [], ◌∷◌, ◌++◌, length, refl, ap, ◌∙◌, arith}
+use Rattle.std.proofs.lemmas.List.{length-map, length-take}
 use Rattle.std.specs.Prelude.{filter, not, is_some, int_lt, ◌+ℤ◌, ◌&&◌, None, Result, Ok, Err}
 use Rattle.std.specs.Ordering.{int_eq}
+use Rattle.std.specs.Result.{result_unwrap_or}
 use Rattle.kr_calls.specs.declared.calls.Ask.TheVariants as asks
 use Rattle.kr_calls.specs.declared.calls.Call.{Call}
 use Rattle.kr_calls.specs.declared.events.Event.{Event}
@@ -23,7 +24,7 @@ use Rattle.law_batch_limits.specs.Fitting.{FitsBatch}
 use Rattle.law_batch_limits.proofs.FittingRecords.{requests_fit}
 use Rattle.kr_model.specs.Commit.{after_commit, commit, is_end}
 use Rattle.kr_model.specs.Entries.{entries_by, item_entries, items_from, log_entries}
-use Rattle.kr_model.specs.Events.{at_time_of, outcome}
+use Rattle.kr_model.specs.Events.{at_time_of, happens, outcome}
 use Rattle.kr_model.specs.Lead.{after_lead, giving_up, in_lead, lead, may_begin_at, taking_over}
 use Rattle.kr_model.specs.Lost.{after_lost, cut, lost}
 use Rattle.kr_model.specs.Reasons as reasons
@@ -31,6 +32,7 @@ use Rattle.kr_model.specs.Request.{after_ask, after_write, decision, is_decided,
 use Rattle.kr_model.specs.World.{State, World, image_of_tip, is_far, leads_in, tip_of, with_batch}
 use Rattle.kr_model.proofs.Leaderships.{control_if, lead_written}
 use Rattle.kr_model.proofs.LogEntries.{batch_written, behind, cut_behind, none_behind}
+use Rattle.kr_model.proofs.Logs.{tip_written}
 use Rattle.kr_workload.specs.inner.Standing.{IsMade}
 use Rattle.kr_workload.specs.Summary.{is_record}
 
@@ -50,17 +52,22 @@ few_entries place items few =
 
 record GrowsFew (log longer : Log) : Type 0 where
   few : length (items_from longer (tip log)) ≤ MOST_RECORDS
+  near : tip longer ≤ tip log + MOST_RECORDS
 
 none_grown : (log : Log) → GrowsFew log log
-none_grown log = let e = ap (λ (l : List Item). length l) (none_behind log) in record { few = omega (arith, e) }
+none_grown log = let e = ap (λ (l : List Item). length l) (none_behind log) in record { few = omega (arith, e); near = omega arith }
 
 cut_grown : (log : Log) (place : ℕ) → GrowsFew log (cut log place)
-cut_grown log place = let e = ap (λ (l : List Item). length l) (cut_behind log place) in record { few = omega (arith, e) }
+cut_grown log place =
+    let e = ap (λ (l : List Item). length l) (cut_behind log place) in
+    let long = length-take (place - log.offset) log.items in
+    record { few = omega (arith, e); near = omega (arith, long) }
 
 batch_grown : (w : World) (items : List Item) → length items ≤ MOST_RECORDS → GrowsFew w.log (with_batch w items).log
 batch_grown w items few =
     let e = ap (λ (log : Log). length (items_from log (tip w.log))) (batch_written w items) ∙ ap (λ (l : List Item). length l) (behind w.log items) in
-    record { few = omega (arith, e, few) }
+    let long = ap (λ (log : Log). tip log) (batch_written w items) ∙ tip_written w.log items in
+    record { few = omega (arith, e, few); near = omega (arith, long, few) }
 
 -- an item of the quorum's own, and an abort
 few_led : (at_end is_open : Bool) → length (control_if at_end ++ as_items (cond is_open (kinds.AbortTransaction None ∷ []) [])) ≤ 2
@@ -75,7 +82,8 @@ led_grown s epoch next =
     let items : List Item = control_if (int_eq next (pos s.world.committed)) ++ as_items (giving_up led) in
     let few = few_led (int_eq next (pos s.world.committed)) (is_some (open_at led.log (tip led.log))) in
     let e = ap (λ (log : Log). length (items_from log (tip s.world.log))) (lead_written s epoch next) ∙ ap (λ (l : List Item). length l) (behind s.world.log items) in
-    record { few = omega (arith, e, few) }
+    let long = ap (λ (log : Log). tip log) (lead_written s epoch next) ∙ tip_written s.world.log items in
+    record { few = omega (arith, e, few); near = omega (arith, long, few) }
 
 written_grown : (options : Options) (s : State) (request : Request) → GrowsFew s.world.log (after_write options s request).world.log
 written_grown options s request =
@@ -138,8 +146,18 @@ module _ (options : Options) (s : State) where
   added events.Image made (Ok after) gives = absurd made
   added event made (Err reason) gives = omega arith
 
+  near_or : (r : Result State Reason) → Gives P r → tip_of (result_unwrap_or r s) ≤ tip_of s + MOST_RECORDS
+  near_or (Ok after) gives = (gives after refl).near
+  near_or (Err reason) gives = omega arith
+
 -- an event of a session adds no more records than a batch has
 pub few_records : (options : Options) (s : State) (event : Event) → IsMade event → length (filter is_record (log_entries options s event)) ≤ MOST_RECORDS
 few_records options s event made =
     let here = at_time_of s event in
     added options here event made (outcome options here event) (outcome_few options here event made)
+
+-- and the tip moves by no more places
+pub few_places : (options : Options) (s : State) (event : Event) → IsMade event → tip_of (happens options s event) ≤ tip_of s + MOST_RECORDS
+few_places options s event made =
+    let here = at_time_of s event in
+    near_or options here (outcome options here event) (outcome_few options here event made)

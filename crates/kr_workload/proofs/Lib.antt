@@ -10,3 +10,4 @@ pub mod Playing
 pub mod Goings
 pub mod Parts
 pub mod Sums
+pub mod Answered

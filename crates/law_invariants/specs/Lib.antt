@@ -1,1 +1,2 @@
+pub mod ImageFrames
 pub mod WorldLaws

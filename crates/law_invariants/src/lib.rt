@@ -1,6 +1,7 @@
 //! What is true of a controller whatever happened to it. Each function says so in its contract, and does nothing.
 #![tactic(auto)]
 
+ghost use Rattle.law_invariants.specs.ImageFrames.{ImagesFitFrames};
 ghost use Rattle.law_invariants.specs.WorldLaws.{ClosedIsCommitted, ClosedRises, CommittedRises, ContactsAreOnce, ContactsRise, HearsWhileLeading, ImagesAreValid, KeptAreValid, NoneOpenWhileLeading};
 
 /// The committed end never falls, whatever events come.
@@ -37,4 +38,10 @@ pub fn leaders_hear_of_all_unfenced_brokers()
 pub fn images_are_valid()
     ensures seen { ImagesAreValid }
     ensures kept { KeptAreValid }
+{}
+
+/// A valid image that is written, with the kind of its frame before it, has fewer than 2^32 bytes, so that its frame's size
+/// field holds the size.
+pub fn images_fit_frames()
+    ensures { ImagesFitFrames }
 {}

@@ -1,10 +1,8 @@
 //! What a client sends and what it expects.
 
-ghost use Rattle.std.specs.Prelude.{◌≡◌, ◌&&◌, IsTrue, pos, int_le};
-ghost use Rattle.kr_defs.specs.declared.limits.TheConstants.{MOST_DEFAULT_PARTITIONS, MOST_TARGETS};
+ghost use Rattle.std.specs.Prelude.{IsTrue};
 ghost use Rattle.kr_defs.specs.OpenOptions as opening;
 
-use kr_defs::limits::{LONGEST_CLUSTER, MOST_DEFAULT_PARTITIONS, MOST_TARGETS};
 use kr_defs::{Options, Text};
 use std::alloc::Global;
 use testlib_words::{Fields, RowFault, bytes_of};
@@ -84,7 +82,7 @@ fn push<T: Drop>(list: &mut Vec<T>, item: T) -> Result<(), RowFault> {
 
 fn setting_of(alloc: Global, fields: &str) -> Result<Setting, RowFault> {
     let options = options_of(alloc, fields)?;
-    if !are_options(&options) {
+    if !options.is_fit() {
         return Err(RowFault::Fields);
     }
     Ok(Setting { options })
@@ -102,29 +100,4 @@ fn options_of(alloc: Global, fields: &str) -> Result<Options, RowFault> {
         minimum: fields.number()?,
         cluster: Text::from_str(alloc, fields.word()?)?,
     })
-}
-
-// A controller may be started with these.
-fn are_options(o: &Options) -> bool
-    ensures { result ≡ opening.are_options o.now }
-{
-    o.node >= 0
-        && 0 < o.session_ms
-        && has_partitions(&o.partitions)
-        && has_factor(&o.factor)
-        && o.minimum >= 1
-        && o.cluster.as_bytes().len() <= LONGEST_CLUSTER
-}
-
-fn has_partitions(partitions: &i32) -> bool
-    ensures { result ≡ (int_le (pos 1) partitions.now
-        && int_le partitions.now MOST_DEFAULT_PARTITIONS) }
-{
-    1 <= *partitions && *partitions <= MOST_DEFAULT_PARTITIONS
-}
-
-fn has_factor(factor: &i16) -> bool
-    ensures { result ≡ (int_le (pos 1) factor.now && int_le factor.now (pos MOST_TARGETS)) }
-{
-    1 <= *factor && *factor <= MOST_TARGETS as i16
 }

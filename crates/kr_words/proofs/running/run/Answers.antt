@@ -54,6 +54,9 @@ returns-clause-make g c = λ seed is. of_told _ c.tell.result c.serve_words-stat
 pub returns-clause-make_complete : goal.returns-clause-make_complete
 returns-clause-make_complete g c = λ seed is write. of_told _ c.tell.result c.serve_words-status.result c.tell.ensures.same (λ at whole. inr refl) (c.serve_words-status.ensures.make_complete seed is write)
 
+pub returns-clause-make_answered : goal.returns-clause-make_answered
+returns-clause-make_answered g c = λ seed made is. c.serve_words-status.ensures.make_answered seed made (same_but_memory c.tell.result c.serve_words-status.result statuses.Done c.tell.ensures.same is (λ e. cc))
+
 pub returns-clause-nodes : goal.returns-clause-nodes
 returns-clause-nodes g c = λ seed is. of_told _ c.tell.result c.serve_words-status.result c.tell.ensures.same (λ at none. absurd none.1) (c.serve_words-status.ensures.nodes seed is)
 

@@ -1,6 +1,7 @@
 use Rattle.std.proofs.Common.{◌∙◌, length, ap, arith}
 use Rattle.kr_workload.specs.Summary.{summary}
 use Rattle.kr_workload.specs.Session.{Made, options}
+use Rattle.kr_workload.proofs.Answered.{all_answered}
 use Rattle.kr_workload.proofs.Goings.{may_go_on}
 use Rattle.kr_workload.proofs.Lengths.{session_few}
 use Rattle.kr_workload.proofs.Parts.{made_session_is}
@@ -28,3 +29,12 @@ returns-clause-value g c =
 
 pub returns-clause-linear : goal.returns-clause-linear
 returns-clause-linear g c = sum_is_few c.args.seed c.args.rounds c.summary.result (returns-clause-value g c)
+
+pub returns-clause-answered : goal.returns-clause-answered
+returns-clause-answered g c =
+    let opened = c.in_ok-open.ensures.stands c.args.seed _ c.in_ok-host.ensures.stands in
+    let played = c.in_ok-rounds.ensures.stands c.args.seed _ opened in
+    let few = session_few c.args.seed c.args.rounds in
+    let is = made_session_is c.args.seed c.args.rounds in
+    let long = ap (λ (made : Made). length made.events) is in
+    all_answered c.args.seed c.args.rounds _ _ played is (omega (arith, few, long, c.requires.rounds)) c.summary.result (returns-clause-value g c)
