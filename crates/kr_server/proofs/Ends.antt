@@ -1,5 +1,5 @@
 -- What the seat did when a connection has ended.
-use Rattle.std.proofs.Common.{◌≡◌, ◌⊎◌, ℕ, ℤ, List, [], ◌∷◌, Option, Result, Ok, Err, refl, sym, subst, inl, inr}
+use Rattle.std.proofs.Common.{◌≡◌, ℕ, ℤ, List, Option, Result, Ok, Err, sym, ap, subst, inl, inr}
 use Rattle.std.specs.Prelude.{None, Some}
 use Rattle.kr_base.specs.Causes.{Rose}
 use Rattle.kr_view.specs.Seats.{Onward}
@@ -9,12 +9,11 @@ use Rattle.kr_shared.proofs.Misses.{may_rise_behind, rose_behind}
 use Rattle.kr_shared.proofs.Onwards.{onward_refl, onward_trans}
 use Rattle.kr_server.specs.declared.end.ServeEnd.{ServeEnd}
 use Rattle.kr_server.specs.declared.end.ServeEnd.TheVariants as ends
-use Rattle.kr_server.specs.PagingCalls.{Unpins}
 use Rattle.kr_server.specs.SeatCalls.{AsksForPages, Holder, holder}
 use Rattle.kr_server.specs.Served.{Connection, EndsBehind, GivesBackLast, HoldsNoneBut, IsWithoutAnswer, IsWithoutCopy, Served, none, one}
 use Rattle.kr_server.specs.inner.Paging.{GaveBack, HoldsAlone}
-use Rattle.kr_server.proofs.PageCalls.{asks_nothing, asks_same, asks_unpin}
-use Rattle.kr_server.proofs.Writes.{asks_without_page, misses_all, onward_all, onward_without_memory}
+use Rattle.kr_server.proofs.PageCalls.{asks_same, asks_unpin}
+use Rattle.kr_server.proofs.Writes.{asks_without_page, misses_all, misses_without_memory, onward_all, onward_without_memory}
 
 still : (mid new : Client) → new ≡ mid → Onward mid.seen new.seen
 still mid new same = subst (λ (c : Client). Onward mid.seen c.seen) (sym same) (onward_refl mid.seen)
@@ -31,6 +30,13 @@ rose_copy : (mid new : Client) (message : List ℕ) → IsWithoutCopy mid new me
 rose_copy mid new message (inl read) = read.told.cause.1
 rose_copy mid new message (inr page) = rose_behind mid.misses page.mid.misses new.misses page.before.misses page.cause.1
 
+same_misses : (mid new : Client) → new ≡ mid → MayRise mid.misses new.misses
+same_misses mid new same = inl (ap (λ (c : Client). c.misses) same)
+
+misses_answer : (mid new : Client) (fault : SubmitFault) (end : ServeEnd) (message : List ℕ) → IsWithoutAnswer mid new fault end message → MayRise mid.misses new.misses
+misses_answer mid new fault end message (inl write) = write.told.misses
+misses_answer mid new fault end message (inr page) = (asks_without_page mid new end message page).misses
+
 -- what the seat did behind the exchanges
 onward_behind : (at : ℕ) (rest : List ℕ) (left' : Option (List ℕ)) (mid : Holder) (new : Client) (end : ServeEnd) → EndsBehind at rest left' mid new end → Onward mid.seat.seen new.seen
 onward_behind at rest left' mid new ends.Closed e = still mid.seat new e.0
@@ -45,6 +51,21 @@ onward_behind at rest left' mid new ends.NoCopy e = onward_copy mid.seat new e.m
 onward_behind at rest left' mid new ends.NoMemory e = elim e [
   | inl begun ↦ still mid.seat new begun.0
   | inr whole ↦ onward_without_memory mid new whole.message whole.holds
+]
+
+misses_behind : (at : ℕ) (rest : List ℕ) (left' : Option (List ℕ)) (mid : Holder) (new : Client) (end : ServeEnd) → EndsBehind at rest left' mid new end → MayRise mid.seat.misses new.misses
+misses_behind at rest left' mid new ends.Closed e = same_misses mid.seat new e.0
+misses_behind at rest left' mid new (ends.Malformed place) e = same_misses mid.seat new e.0
+misses_behind at rest left' mid new ends.ReadFault e = same_misses mid.seat new e.0
+misses_behind at rest left' mid new ends.WriteFault e = same_misses mid.seat new e.0
+misses_behind at rest left' mid new ends.TooLong e = same_misses mid.seat new e.0
+misses_behind at rest left' mid new (ends.Ended number) e = misses_answer mid.seat new _ _ e.message e.holds
+misses_behind at rest left' mid new (ends.Ahead floor tip) e = misses_answer mid.seat new _ _ e.message e.holds
+misses_behind at rest left' mid new (ends.Exhausted tip) e = e.holds.told.misses
+misses_behind at rest left' mid new ends.NoCopy e = inr (rose_copy mid.seat new e.message e.holds)
+misses_behind at rest left' mid new ends.NoMemory e = elim e [
+  | inl begun ↦ same_misses mid.seat new begun.0
+  | inr whole ↦ misses_without_memory mid new whole.message whole.holds
 ]
 
 -- ---- the last call of the seat
@@ -72,6 +93,13 @@ module _ (before after : Connection) (held left : Option ℤ) (new : Client) (re
       onward_trans before.seat.seen after.seat.seen new.seen
       (onward_trans before.seat.seen s.mid.seat.seen after.seat.seen (onward_all (holder before.seat None) s.mid s.xs s.exchanged) (onward_behind _ s.rest after.left s.mid after.seat end s.behind))
       (asks_last held left after.seat new result g).onward
+
+  -- its count of misses stays or rises
+  pub served_misses : (end : ServeEnd) → Served before after end → MayRise before.seat.misses new.misses
+  served_misses end s =
+      may_rise_behind before.seat.misses after.seat.misses new.misses
+      (may_rise_behind before.seat.misses s.mid.seat.misses after.seat.misses (misses_all (holder before.seat None) s.mid s.xs s.exchanged) (misses_behind _ s.rest after.left s.mid after.seat end s.behind))
+      (asks_last held left after.seat new result g).misses
 
   -- no copy only where the count rose
   rose_further : (n m k : ℕ) → Rose n m → MayRise m k → Rose n k

@@ -1,5 +1,5 @@
 -- One message: what came of the seat for it, and how it is answered.
-use Rattle.std.proofs.Common.{◌≡◌, ◌∙◌, ◌⊎◌, ℕ, ℤ, List, [], ◌∷◌, ◌++◌, take, Result, Ok, Err, refl, sym, ap, subst, inl, inr}
+use Rattle.std.proofs.Common.{◌≡◌, ℕ, ℤ, List, [], ◌∷◌, Result, Ok, Err, ap, subst, inr}
 use Rattle.std.specs.Prelude.{true, false, IfOk, IfSome, IsErrOf, OnErr, OnOk, Option, Some, None}
 use Rattle.std.specs.Result.{is_err}
 use Rattle.std.specs.Io.KnownBytes.{Appends}
@@ -22,12 +22,11 @@ use Rattle.kr_server.specs.declared.end.ServeEnd.TheVariants as ends
 use Rattle.kr_server.specs.declared.exchange.Exchange.{Exchange}
 use Rattle.kr_server.specs.declared.exchange.Exchange.TheVariants as exchanges
 use Rattle.kr_server.specs.Exchanges.{IsAskedFor, IsBareAsk, no_call, SizedReplyFits, sized_reply}
-use Rattle.kr_server.specs.SeatCalls.{Holder, IsExchanged, IsRefusedPage, IsWithoutMemory, for_ask, for_exchange, for_page, holder}
+use Rattle.kr_server.specs.SeatCalls.{Holder, IsExchanged, IsRefusedPage, for_exchange, for_page, holder}
 use Rattle.kr_server.specs.Served.{Connection, connection}
 use Rattle.kr_server.specs.Told.{TellsMore}
 use Rattle.kr_server.specs.inner.Paging.{IsNoPage, IsPageMade, IsPinPlace}
 use Rattle.kr_server.specs.inner.Serving.{CameOf, IsAnsweredBy, IsAnsweredInPart, IsNotAnswered, IsNotExchanged, IsSilent}
-use Rattle.kr_server.proofs.Lists.{tells_none}
 use Rattle.kr_server.proofs.LostPins.{kept_on}
 
 -- ---- the place of a walk over other exchanges

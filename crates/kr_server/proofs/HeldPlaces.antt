@@ -1,14 +1,12 @@
 -- Places that a seat holds: one for the pages of a walk beside its others.
-use Rattle.std.proofs.Common.{◌≡◌, ◌∙◌, ◌<◌, ◌≤◌, ◌+◌, ℕ, suc, ℤ, Bool, true, false, cond, not, List, [], ◌∷◌, ◌++◌, length, length-append, filter, refl, sym, ap, subst, arith}
-use Rattle.std.specs.Prelude.{◌||◌, IsTrue, Option, Some, None, Result, Ok, Err}
+use Rattle.std.proofs.Common.{◌≡◌, ◌∙◌, ◌<◌, ◌≤◌, ◌+◌, suc, ℤ, Bool, true, false, cond, not, List, [], ◌∷◌, ◌++◌, length, length-append, refl, sym, ap, subst, arith}
+use Rattle.std.specs.Prelude.{◌||◌, Option, Some, None}
 use Rattle.std.specs.List.{list_any}
 use Rattle.std.specs.Ordering.{int_eq}
 use Rattle.std.proofs.lemmas.Bool.Decides.{Decides-int_eq}
-use Rattle.kr_shared.specs.declared.clients.SubmitFault.{SubmitFault}
 use Rattle.kr_shared.specs.declared.places.TheConstants.{MOST_PLACES}
 use Rattle.kr_shared.specs.Clients.{Client}
 use Rattle.kr_shared.specs.HeldPlaces.{with_place, without_place}
-use Rattle.kr_server.specs.PagingCalls.{PinsOne, Unpins}
 use Rattle.kr_server.specs.inner.Paging.{HasPlaceLeft, HoldsAlone, KeepsPlaces}
 
 module _ (place : ℤ) where

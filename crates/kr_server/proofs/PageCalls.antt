@@ -1,18 +1,15 @@
 -- What calls for pages leave: the seat's list goes on, and no write was pushed.
-use Rattle.std.proofs.Common.{cond, ◌≡◌, ◌∙◌, ◌⊎◌, inl, inr, ℕ, ℤ, List, [], ◌∷◌, ◌++◌, filter, Result, Ok, Err, refl, sym, ap, subst, append-nil}
-use Rattle.std.specs.Prelude.{Bool, true, false, Option, Some, None}
+use Rattle.std.proofs.Common.{cond, ◌≡◌, ◌∙◌, ◌⊎◌, inl, inr, ℤ, List, [], ◌∷◌, ◌++◌, Result, Ok, Err, refl, sym, ap, subst, append-nil}
+use Rattle.std.specs.Prelude.{false, Option, Some, None}
 use Rattle.std.proofs.lemmas.List.Elements.{filter-append}
 use Rattle.kr_calls.specs.declared.pins.Pin.{Pin}
-use Rattle.kr_calls.specs.SeatList.{end_of}
 use Rattle.kr_pages.specs.declared.describe.Describe.{Describe}
 use Rattle.kr_pages.specs.declared.describe.Described.{Described}
 use Rattle.kr_pages.specs.declared.describe.LineKey.{LineKey}
 use Rattle.kr_queue.specs.declared.jobs.Job.{Job}
-use Rattle.kr_view.specs.Seats.{Onward}
 use Rattle.kr_shared.specs.declared.clients.SubmitFault.{SubmitFault}
 use Rattle.kr_shared.specs.declared.clients.SubmitFault.TheVariants as submits
-use Rattle.kr_shared.specs.declared.pins.PinFault.TheVariants as pin_faults
-use Rattle.kr_shared.specs.Clients.{Client, MayRise}
+use Rattle.kr_shared.specs.Clients.{Client}
 use Rattle.kr_shared.specs.Grants.{IsNotGranted}
 use Rattle.kr_shared.proofs.Misses.{may_rise_behind}
 use Rattle.kr_shared.proofs.Onwards.{onward_refl, onward_trans}

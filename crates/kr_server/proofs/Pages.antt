@@ -1,8 +1,7 @@
 -- A page that a client asks for, call by call.
-use Rattle.std.proofs.Common.{◌≡◌, ◌∙◌, ℕ, ℤ, Bool, true, false, List, [], ◌∷◌, ◌++◌, Result, Ok, Err, refl, sym, ap, subst, inl, inr}
+use Rattle.std.proofs.Common.{◌≡◌, ◌∙◌, ℤ, Bool, true, false, List, [], ◌∷◌, ◌++◌, Result, Ok, Err, refl, sym, ap, subst, inl, inr}
 use Rattle.std.specs.Prelude.{IfOk, IfSome, IsTrue, Option, Some, None}
 use Rattle.std.specs.Option.{is_some, option_map}
-use Rattle.kr_base.specs.Causes.{Rose}
 use Rattle.kr_calls.specs.declared.pins.Pin.{Pin}
 use Rattle.kr_describe.specs.declared.steady.PageFault.{PageFault}
 use Rattle.kr_describe.specs.declared.steady.PageFault.TheVariants as page_faults
@@ -14,17 +13,15 @@ use Rattle.kr_pages.specs.declared.describe.LineKey.{LineKey}
 use Rattle.kr_pages.specs.Pages.{page}
 use Rattle.kr_calls.specs.SeatList.{image_below, is_kept_in}
 use Rattle.kr_view.specs.declared.scans.ScanFault.TheVariants as scans
-use Rattle.kr_view.specs.Seats.{Onward}
 use Rattle.kr_shared.specs.declared.clients.SubmitFault.{SubmitFault}
 use Rattle.kr_shared.specs.declared.clients.SubmitFault.TheVariants as submits
 use Rattle.kr_shared.specs.Clients.{Client, client_reading}
 use Rattle.kr_shared.specs.Grants.{IsKeptFrom, pin_at}
-use Rattle.kr_server.specs.declared.describing.Tried.TheVariants as trials
 use Rattle.kr_server.specs.declared.end.ServeEnd.{ServeEnd}
 use Rattle.kr_server.specs.declared.end.ServeEnd.TheVariants as ends
-use Rattle.kr_server.specs.PagingCalls.{HoldsFor, HoldsOn, IsLost, IsPageEnd, IsPageExchange, IsPlaceRefused, KeepsFor, PinsOne, ReadsRecords, Unpins, no_pin, no_unpin}
+use Rattle.kr_server.specs.PagingCalls.{HoldsFor, HoldsOn, IsLost, IsPageEnd, IsPlaceRefused, KeepsFor, PinsOne, ReadsRecords, Unpins, no_pin, no_unpin}
 use Rattle.kr_server.specs.SeatCalls.{AsksForPages, Holder, holder}
-use Rattle.kr_server.specs.inner.Paging.{Finished, GaveBack, IsPinPlace, IsPageMade, IsNoPage, IsPlaceEnd, IsReadyFor, PageRead, Renewed, TookOne, TriedOnce, fault_end}
+use Rattle.kr_server.specs.inner.Paging.{Finished, GaveBack, IsPinPlace, IsPageMade, IsNoPage, IsPlaceEnd, IsReadyFor, Renewed, TookOne, fault_end}
 use Rattle.kr_server.specs.inner.Serving.{refusal_end}
 use Rattle.kr_server.proofs.LostPins.{is_lost, kept_on}
 use Rattle.kr_server.proofs.PageCalls.{asks_more, asks_nothing, asks_pin, asks_records, asks_same, asks_unpin}

@@ -1,12 +1,10 @@
 -- How the serving of a connection goes on by one message, and how it ends.
-use Rattle.std.proofs.Common.{◌≡◌, ◌∙◌, ℕ, ℤ, ◌+◌, ◌≤◌, List, [], ◌∷◌, ◌++◌, length, Option, Result, Ok, Err, refl, sym, ap, subst, inl, inr, arith, append-nil, length-append}
+use Rattle.std.proofs.Common.{◌≡◌, ◌∙◌, ℕ, ℤ, ◌+◌, ◌≤◌, List, [], ◌∷◌, ◌++◌, length, Option, refl, sym, ap, subst, inl, inr, arith, append-nil, length-append}
 use Rattle.std.specs.Prelude.{None}
-use Rattle.std.specs.Prelude.{IsErrOf}
 use Rattle.std.specs.Io.KnownBytes.{Consumes}
 use Rattle.std.proofs.KnownBytes.{Consumes-nil, Consumes-trans}
 use Rattle.kr_defs.specs.declared.limits.TheConstants.{MOST_SESSION_BYTES}
 use Rattle.kr_wire.specs.Grammar.{Each}
-use Rattle.kr_calls.specs.declared.pins.Pin.{Pin}
 use Rattle.kr_view.specs.declared.seat.CopyFault.TheVariants as copies
 use Rattle.kr_shared.specs.declared.clients.SubmitFault.{SubmitFault}
 use Rattle.kr_shared.specs.declared.clients.SubmitFault.TheVariants as submits
@@ -19,7 +17,6 @@ use Rattle.kr_server.specs.SeatCalls.{for_ask, Holder, IsWithoutMemory, PushesWr
 use Rattle.kr_server.specs.Served.{Connection, EndsBehind, IsWithoutAnswer, IsWithoutCopy, Served, WroteReplies, WroteRepliesUpTo, connection}
 use Rattle.kr_server.specs.inner.Reading.{IsUnread, TookPiece}
 use Rattle.kr_server.specs.inner.Serving.{IsAnsweredBy, IsAnsweredInPart, IsNotAnswered, IsNotExchanged, IsSilent, ServedSoFar}
-use Rattle.kr_server.specs.inner.Paging.{IsPinPlace}
 use Rattle.kr_server.proofs.Lists.{each_both, each_one, tells_more, tells_none, tells_same}
 use Rattle.kr_server.proofs.Replies.{wrote_in_part, wrote_more, wrote_none, wrote_same}
 use Rattle.kr_server.proofs.Writes.{asks_without_page, exchanged_more, exchanged_none, pushes_no_more, pushes_refused, pushes_those, pushes_unread, pushes_without_memory}

@@ -1,6 +1,6 @@
 -- What a seat did over exchanges: the writes that it pushed, that its list goes on, and its count of misses.
-use Rattle.std.proofs.Common.{◌≡◌, ◌∙◌, ℕ, ℤ, List, [], ◌∷◌, ◌++◌, Ok, ◌⊎◌, inl, inr, filter, refl, sym, ap, subst, append_assoc, append-nil}
-use Rattle.std.specs.Prelude.{Option, Some, None}
+use Rattle.std.proofs.Common.{◌≡◌, ◌∙◌, ℕ, ℤ, List, [], ◌∷◌, ◌++◌, Ok, ◌⊎◌, inl, inr, refl, sym, ap, subst, append_assoc, append-nil}
+use Rattle.std.specs.Prelude.{Option}
 use Rattle.std.proofs.lemmas.List.Elements.{filter-append}
 use Rattle.kr_calls.specs.declared.answers.Answered.{Answered}
 use Rattle.kr_calls.specs.declared.calls.Call.{Call}
@@ -21,7 +21,6 @@ use Rattle.kr_server.specs.declared.end.ServeEnd.{ServeEnd}
 use Rattle.kr_server.specs.declared.end.ServeEnd.TheVariants as ends
 use Rattle.kr_server.specs.declared.exchange.Exchange.{Exchange}
 use Rattle.kr_server.specs.declared.exchange.Exchange.TheVariants as exchanges
-use Rattle.kr_server.specs.PagingCalls.{IsPageEnd}
 use Rattle.kr_server.specs.SeatCalls.{AreExchanged, AsksForPages, Holder, IsExchanged, IsRefusedPage, IsRefusedRead, IsRefusedWrite, IsWithoutMemory, for_ask, for_exchange, for_page, for_read, for_write, PushesWrites, Submits, holder, is_write, one_more, pushed_write, pushed_writes, those, writes_among}
 use Rattle.kr_server.proofs.PageCalls.{asks_for_page, asks_more, asks_nothing, asks_page_end}
 
@@ -140,3 +139,11 @@ onward_without_memory mid new message (for_write r) = r.told.onward
 onward_without_memory mid new message (for_read r) = r.told.onward
 onward_without_memory mid new message (for_page r) = (asks_without_page mid.seat new ends.NoMemory message r).onward
 onward_without_memory mid new message (for_exchange x left asked is) = onward_by mid (holder new left) x is
+
+-- the count of misses stays or rises
+pub misses_without_memory : (mid : Holder) (new : Client) (message : List ℕ) → IsWithoutMemory mid new message → MayRise mid.seat.misses new.misses
+misses_without_memory mid new message (for_ask same) = inl (ap (λ (c : Client). c.misses) same)
+misses_without_memory mid new message (for_write r) = r.told.misses
+misses_without_memory mid new message (for_read r) = inl r.told.cause
+misses_without_memory mid new message (for_page r) = (asks_without_page mid.seat new ends.NoMemory message r).misses
+misses_without_memory mid new message (for_exchange x left asked is) = misses_by mid (holder new left) x is

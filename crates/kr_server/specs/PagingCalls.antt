@@ -1,5 +1,5 @@
 -- What a client's seat tells of the calls for a page. This project's own.
-use Rattle.std.specs.Prelude.{int_lt, length, not, ◌≡◌, ◌⊎◌, ℕ, ℤ, ◌<◌, ◌^◌, ◌-◌, false, IsTrue, List, [], ◌∷◌, ◌++◌, Option, Some, None, Result, Ok, Err, MatchResult, IfOk, IfErr, OnOk, OnErr}
+use Rattle.std.specs.Prelude.{int_lt, length, not, ◌≡◌, ◌⊎◌, ℤ, ◌<◌, ◌^◌, ◌-◌, false, IsTrue, List, [], ◌∷◌, ◌++◌, Option, Some, None, Result, Ok, Err, MatchResult, IfErr, OnOk, OnErr}
 use Rattle.std.specs.List.{AllByRecursion}
 use Rattle.kr_base.specs.Causes.{Rose, raised}
 use Rattle.kr_calls.specs.declared.events.Entry.{Entry}
@@ -9,9 +9,7 @@ use Rattle.kr_calls.specs.SeatList.{end_of, image_below, is_kept_in, loads_of}
 use Rattle.kr_calls.specs.SeatListLaws.{unpins}
 use Rattle.kr_pages.specs.declared.describe.Describe.{Describe}
 use Rattle.kr_pages.specs.declared.describe.Described.{Described}
-use Rattle.kr_pages.specs.declared.describe.DescribeAsk.TheVariants as describes
 use Rattle.kr_pages.specs.declared.describe.LineKey.{LineKey}
-use Rattle.kr_pages.specs.Messages.{IsDescribeAsk}
 use Rattle.kr_pages.specs.Pages.{page}
 use Rattle.kr_queue.specs.declared.jobs.Job.{Job}
 use Rattle.kr_queue.specs.declared.jobs.Job.TheVariants as jobs
@@ -19,7 +17,6 @@ use Rattle.kr_view.specs.Looks.{HasRightEntry}
 use Rattle.kr_view.specs.Seats.{Onward}
 use Rattle.kr_shared.specs.declared.clients.SubmitFault.{SubmitFault}
 use Rattle.kr_shared.specs.declared.clients.SubmitFault.TheVariants as submits
-use Rattle.kr_shared.specs.declared.pins.PinFault.{PinFault}
 use Rattle.kr_shared.specs.declared.pins.PinFault.TheVariants as pin_faults
 use Rattle.kr_shared.specs.declared.places.TheConstants.{MOST_PLACES}
 use Rattle.kr_shared.specs.Clients.{Client, MayRise}

@@ -1,7 +1,6 @@
 //! What a message asks, and what the seat answers to it.
 
 ghost use Rattle.std.specs.Prelude.{◌≡◌, ℕ, List, Option, not, IfOk, IfErr, IsTrue};
-ghost use Rattle.kr_calls.specs.Decide as rules;
 ghost use Rattle.kr_calls.specs.Decide.{is_read};
 ghost use Rattle.kr_calls.specs.declared.calls.Ask.TheVariants as asks;
 ghost use Rattle.kr_calls.specs.declared.pins.Pin.{Pin};
@@ -20,7 +19,7 @@ use crate::end::{ServeEnd, copy_end, refusal_end};
 use crate::exchange::Exchange;
 use crate::paging::Paging;
 use kr_calls::errors::{INVALID_REQUEST, UNSUPPORTED_VERSION};
-use kr_calls::{Ask, AskFault, Call, Request};
+use kr_calls::{Ask, AskFault, Call};
 use kr_pages::{Describe, DescribeAsk};
 use kr_req::decode;
 use kr_shared::ClientSeat;
@@ -117,7 +116,7 @@ fn exchange_call<R: Wait>(
             correlation,
             error: error_of(&fault),
         }),
-        Ask::Call(call) if is_read(&call.request) => query(seat, call),
+        Ask::Call(call) if call.request.is_read() => query(seat, call),
         Ask::Call(call) => submit(rt, seat, call),
     }
 }
@@ -128,16 +127,6 @@ fn error_of(fault: &AskFault) -> i16
     match fault {
         AskFault::Unsupported { .. } => UNSUPPORTED_VERSION,
         AskFault::Wire | AskFault::Trailing => INVALID_REQUEST,
-    }
-}
-
-// It changes nothing.
-fn is_read(request: &Request) -> bool
-    ensures { result ≡ rules.is_read request.now }
-{
-    match request {
-        Request::ListPartitionReassignments(_) | Request::Metadata(_) => true,
-        _ => false,
     }
 }
 

@@ -2,6 +2,7 @@
 //! expected replies and ends.
 
 use crate::controller::serve_talk;
+use crate::pages::PAGES;
 use crate::rows::ROWS;
 use crate::talk::Talk;
 use std::alloc::Global;
@@ -11,7 +12,7 @@ use std::thread::Threads;
 use testlib_words::RowFault;
 
 // How many rows there are.
-const COUNT: usize = 170;
+const COUNT: usize = 330;
 
 // Does what the row asks. Where that is the end, it answers how what came differs from what the row expects, if it does.
 fn do_row<R: Threads + Wait + Sync>(
@@ -71,11 +72,13 @@ fn difference(came: &Result<Option<String>, RowFault>) -> &str {
 fn connections_are_served_as_rows_say(rt: HostRuntime) -> Result<(), Fail> {
     let mut talk = None;
     let mut count = 0usize;
-    for line in ROWS.lines() {
-        if !line.is_empty() && !line.starts_with('#') {
-            let came = do_row(&rt, rt.alloc(), &mut talk, line);
-            assert!(rt; matches!(&came, Ok(None)), "{line}: {}", difference(&came));
-            count = count.saturating_add(1);
+    for rows in [ROWS, PAGES] {
+        for line in rows.lines() {
+            if !line.is_empty() && !line.starts_with('#') {
+                let came = do_row(&rt, rt.alloc(), &mut talk, line);
+                assert!(rt; matches!(&came, Ok(None)), "{line}: {}", difference(&came));
+                count = count.saturating_add(1);
+            }
         }
     }
     assert_eq!(rt; count, COUNT);

@@ -1,7 +1,7 @@
 //! A controller that commits each append at once, and its one client's connection over memory, in another thread.
 
 use crate::replies::ReplySink;
-use crate::talk::Talk;
+use crate::talk::{First, Talk};
 use kr_base::{MemoryClock, MemorySource, NoMemory, OpenGate};
 use kr_calls::Event;
 use kr_local::LocalQuorum;
@@ -48,7 +48,7 @@ impl Outcome {
     }
 }
 
-/// Serves the connection of the one client of a controller that leads since place 0 and time 0, or whose worker is stopped.
+/// Serves the connection of the one client of a controller whose worker is told the first thing before.
 pub(crate) fn serve_talk<R: Threads + Wait + Sync>(
     rt: &R,
     alloc: Global,
@@ -56,7 +56,7 @@ pub(crate) fn serve_talk<R: Threads + Wait + Sync>(
 ) -> Result<Outcome, NoMemory> {
     let Talk {
         setting,
-        is_stopped,
+        first,
         bytes,
         times,
         failing_reads,
@@ -73,7 +73,7 @@ pub(crate) fn serve_talk<R: Threads + Wait + Sync>(
     match open(rt, alloc, &mut opening, setting.options, 1) {
         Err(_) => Err(NoMemory),
         Ok((mut worker, mut link, seats)) => {
-            let outcome = match begin(rt, &mut link, is_stopped) {
+            let outcome = match begin(rt, &mut link, first) {
                 Err(NoMemory) => Err(NoMemory),
                 Ok(()) => serve_first(rt, alloc, &mut worker, &mut link, seats, &mut outside),
             };
@@ -83,16 +83,20 @@ pub(crate) fn serve_talk<R: Threads + Wait + Sync>(
     }
 }
 
-fn begin<R: Wait>(rt: &R, link: &mut LinkSeat, is_stopped: bool) -> Result<(), NoMemory> {
-    if is_stopped {
-        return link.stop(rt, STOP);
-    }
-    let lead = Event::Lead {
-        epoch: 1,
-        next: 0,
-        now: 0,
+fn begin<R: Wait>(rt: &R, link: &mut LinkSeat, first: First) -> Result<(), NoMemory> {
+    let pushed = match first {
+        First::Stop => return link.stop(rt, STOP),
+        First::Load(bytes) => link.push(rt, Event::Load { bytes }),
+        First::Lead => link.push(
+            rt,
+            Event::Lead {
+                epoch: 1,
+                next: 0,
+                now: 0,
+            },
+        ),
     };
-    match link.push(rt, lead) {
+    match pushed {
         Ok(()) => Ok(()),
         Err(_) => Err(NoMemory),
     }

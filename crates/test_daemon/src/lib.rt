@@ -10,6 +10,8 @@ mod controller;
 #[cfg(test)]
 mod linked;
 #[cfg(test)]
+mod pages;
+#[cfg(test)]
 mod quorum;
 #[cfg(test)]
 mod replies;

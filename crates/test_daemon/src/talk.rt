@@ -3,7 +3,7 @@
 ghost use Rattle.std.specs.Prelude.{IsTrue};
 ghost use Rattle.kr_defs.specs.OpenOptions as opening;
 
-use kr_defs::{Options, Text};
+use kr_defs::{Bytes, Options, Text};
 use std::alloc::Global;
 use testlib_words::{Fields, RowFault, bytes_of};
 
@@ -14,12 +14,23 @@ pub(crate) struct Setting {
     ghost fit: { IsTrue (opening.are_options options) },
 }
 
+/// What a controller's worker is told before its client.
+#[derive(Drop)]
+pub(crate) enum First {
+    /// The node leads since place 0 and time 0.
+    Lead,
+    /// An image's text comes from another leader.
+    Load(Bytes),
+    /// The worker is stopped.
+    Stop,
+}
+
 /// What a client sends to a controller with these settings, the time of each of its writes, the numbers of the reads and of the
-/// puts that fail, and the replies that are expected. The controller leads, or its worker is stopped.
+/// puts that fail, and the replies that are expected.
 #[derive(Drop)]
 pub(crate) struct Talk {
     pub setting: Setting,
-    pub is_stopped: bool,
+    pub first: First,
     pub bytes: Vec<u8>,
     pub times: Vec<i64>,
     pub failing_reads: Vec<u64>,
@@ -33,7 +44,7 @@ impl Talk {
         let setting = setting_of(alloc, fields)?;
         Ok(Talk {
             setting,
-            is_stopped: false,
+            first: First::Lead,
             bytes: Vec::new(alloc),
             times: Vec::new(alloc),
             failing_reads: Vec::new(alloc),
@@ -42,7 +53,7 @@ impl Talk {
         })
     }
 
-    /// Adds what a row asks: to send a message, or that a read or a put fails, or that the worker is stopped.
+    /// Adds what a row asks: to send a message, or that a read or a put fails, or that an image is loaded or the worker stopped.
     pub(crate) fn add(
         &mut self,
         alloc: Global,
@@ -55,8 +66,12 @@ impl Talk {
             "send" => self.send(alloc, &mut fields, expected),
             "fail-read" => push(&mut self.failing_reads, fields.number()?),
             "fail-put" => push(&mut self.failing_puts, fields.number()?),
+            "load" => {
+                self.first = First::Load(Bytes::from_vec(fields.bytes(alloc)?));
+                Ok(())
+            }
             "stop" => {
-                self.is_stopped = true;
+                self.first = First::Stop;
                 Ok(())
             }
             _ => Err(RowFault::Fields),

@@ -1,4 +1,4 @@
-use Rattle.std.proofs.Common.{◌≡◌, ◌∙◌, ℤ, Err, Ok, Some, ap, refl, subst, sym, to_z, of_z, w64}
+use Rattle.std.proofs.Common.{ℤ, Err, Ok, refl, subst, sym, w64}
 use Rattle.std.proofs.lemmas.Int.{to_z-of_z}
 use Rattle.kr_server.specs.inner.Paging.{IsReadyFor, PageRead}
 use Rattle.kr_server.proofs.PageCalls.{asks_more, asks_records}

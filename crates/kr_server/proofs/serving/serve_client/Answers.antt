@@ -1,6 +1,6 @@
 use Rattle.std.proofs.Common.{sym, subst}
 use Rattle.kr_server.specs.inner.Paging.{HoldsAlone}
-use Rattle.kr_server.proofs.Ends.{copy_cause, gives_back_last, holds_none_but, served_onward}
+use Rattle.kr_server.proofs.Ends.{copy_cause, gives_back_last, holds_none_but, served_misses, served_onward}
 use Rattle.kr_server.proofs.Streams.{serves_messages, serves_up_to_break}
 use Rattle.kr_server.proofs.serving.serve_client.Goals as goal
 
@@ -9,6 +9,9 @@ returns-clause-served g c = (c.serve_messages-end.new.seat, c.serve_messages-end
 
 pub returns-clause-onward : goal.returns-clause-onward
 returns-clause-onward g c = served_onward _ _ _ _ _ c.let_go.result c.let_go.ensures.gave c.serve_messages-end.result c.serve_messages-end.ensures.served
+
+pub returns-clause-misses : goal.returns-clause-misses
+returns-clause-misses g c = served_misses _ _ _ _ _ c.let_go.result c.let_go.ensures.gave c.serve_messages-end.result c.serve_messages-end.ensures.served
 
 pub returns-clause-none : goal.returns-clause-none
 returns-clause-none g c = λ is.
