@@ -1,0 +1,43 @@
+-- A decided reply has no NOT_CONTROLLER, so it is told from the refusal of each request that asks for something.
+use Rattle.std.proofs.Common.{◌≡◌, ℕ, ℤ, pos, true, false, List, [], ◌∷◌, map, refl, subst}
+use Rattle.std.specs.Prelude.{Result}
+use Rattle.kr_defs.specs.declared.basis.Basis.{Basis}
+use Rattle.kr_defs.specs.declared.options.Options.{Options}
+use Rattle.kr_defs.specs.Image.{Image, IsValid}
+use Rattle.kr_calls.specs.declared.calls.Reply.{Reply}
+use Rattle.kr_calls.specs.declared.calls.Request.{Request}
+use Rattle.kr_calls.specs.declared.calls.Request.TheVariants as requests
+use Rattle.kr_calls.specs.declared.deciding.Draft.{Draft}
+use Rattle.kr_calls.specs.declared.errors.TheConstants.{NOT_CONTROLLER}
+use Rattle.kr_calls.specs.Decide.{is_read}
+use Rattle.kr_calls.specs.Deciding.{Work}
+use Rattle.kr_calls.specs.Refuse.{refuse}
+use Rattle.law_replies.specs.LimitReplies.{ReplyTellsLimits, TellLimits}
+use Rattle.law_replies.specs.ToldApart.{AsksNothing, RefusalsAreToldApart}
+use Rattle.law_replies.proofs.LimitReplies.{replies_tell_limits}
+
+-- no entry is answered so
+none_asked : {E A : Type 0} (error_of : A → ℤ) (refused : ℤ → E → A) (rule : Image → ℤ → E → Result (Draft A) ℤ) → ((entry : E) → error_of (refused NOT_CONTROLLER entry) ≡ NOT_CONTROLLER)
+    → (w : Work) (entries : List E) → TellLimits error_of refused rule w entries (map (refused NOT_CONTROLLER) entries) → entries ≡ []
+none_asked error_of refused rule told w [] tell = refl
+none_asked error_of refused rule told w (entry ∷ entries) tell =
+    absurd (let no : true ≡ false = subst (λ (error : ℤ). Rattle.std.specs.Ordering.int_eq error NOT_CONTROLLER ≡ false) (told entry) tell.0.leads in cc)
+
+apart : (options : Options) (basis : Basis) (image : Image) (place : ℕ) (request : Request) → is_read request ≡ false → ReplyTellsLimits options basis image (pos place) request (refuse request NOT_CONTROLLER) → AsksNothing request
+unfolding refuse
+apart options basis image place (requests.BrokerRegistration q) write tell = absurd (let no : true ≡ false = tell.leads in cc)
+apart options basis image place (requests.BrokerHeartbeat q) write tell = absurd (let no : true ≡ false = tell.leads in cc)
+apart options basis image place (requests.UnregisterBroker q) write tell = absurd (let no : true ≡ false = tell.leads in cc)
+apart options basis image place (requests.CreateTopics q) write tell = none_asked _ _ _ (λ entry. refl) _ q.topics tell
+apart options basis image place (requests.DeleteTopics q) write tell = none_asked _ _ _ (λ entry. refl) _ q.topics tell
+apart options basis image place (requests.CreatePartitions q) write tell = none_asked _ _ _ (λ entry. refl) _ q.topics tell
+apart options basis image place (requests.AlterPartition q) write tell = absurd (let no : false ≡ true = tell.0 in cc)
+apart options basis image place (requests.ElectLeaders q) write tell = absurd (let no : false ≡ true = tell.0 in cc)
+apart options basis image place (requests.AlterPartitionReassignments q) write tell = absurd (let no : false ≡ true = tell.0 in cc)
+apart options basis image place (requests.IncrementalAlterConfigs q) write tell = none_asked _ _ _ (λ entry. refl) _ q.resources tell
+apart options basis image place (requests.ListPartitionReassignments q) write tell = absurd (let no : true ≡ false = write in cc)
+apart options basis image place (requests.Metadata q) write tell = absurd (let no : true ≡ false = write in cc)
+
+pub refusals_are_told_apart : RefusalsAreToldApart
+refusals_are_told_apart options basis image place request valid write is =
+    apart options basis image place request write (subst (λ (reply : Reply). ReplyTellsLimits options basis image (pos place) request reply) is (replies_tell_limits options basis image place request valid))
