@@ -41,7 +41,7 @@ use Rattle.kr_calls.specs.ElectLeaders as elect_leaders
 use Rattle.kr_calls.specs.IncrementalAlterConfigs as incremental_alter_configs
 use Rattle.kr_calls.specs.Refuse.{refused_create_partitions, refused_create_topics, refused_delete_topics, refused_incremental_alter_configs}
 use Rattle.kr_calls.specs.UnregisterBroker as unregister_broker
-use Rattle.law_replies.specs.LimitReplies.{GroupsTellLimits, HasLimit, IsStopped, PassesLimit, RepliesTellLimits, ReplyTellsLimits, TellLimits, TellsLimit, is_own}
+use Rattle.law_replies.specs.LimitReplies.{GroupsTellLimits, HasLimit, StopsAtLimit, PassesLimit, RepliesTellLimits, ReplyTellsLimits, TellLimits, TellsLimit, is_own}
 use Rattle.law_replies.proofs.OwnAnswers as own
 use Rattle.law_replies.proofs.OwnAnswers.{AnswersOwn, IsOwn}
 use Rattle.law_safety.specs.RefusalLaws.{BreakAtLimits, IsRefusedByLimits, is_past_limit}
@@ -52,19 +52,19 @@ use Rattle.law_safety.proofs.SafeRequests.{valid_after}
 -- ---- records
 
 -- the first record without a meaning is one that passes a limit
-stopped : (place : ℤ) (image : Image) (records : List Record) (cause : Ill) → apply_records image records ≡ Err cause → Breaks place image records → IsStopped place image records
+stopped : (place : ℤ) (image : Image) (records : List Record) (cause : Ill) → apply_records image records ≡ Err cause → Breaks place image records → StopsAtLimit place image records
 stopped place image [] cause is breaks = absurd cc
 stopped place image (r ∷ records) cause is breaks =
-    elim (apply_record image r) as (λ x. and_then x (λ after. apply_records after records) ≡ Err cause → BreaksBy place image r (λ mid. Breaks place mid records) x → MatchResult x (λ after. IsStopped place after records) (λ why. IsTrue (is_past_limit place image r why))) [
+    elim (apply_record image r) as (λ x. and_then x (λ after. apply_records after records) ≡ Err cause → BreaksBy place image r (λ mid. Breaks place mid records) x → MatchResult x (λ after. StopsAtLimit place after records) (λ why. IsTrue (is_past_limit place image r why))) [
       | Ok mid ↦ λ is breaks. stopped place mid records cause is breaks
       | Err why ↦ λ is breaks. breaks
     ] is breaks
 
 -- records with such a one have no image behind them
-none_behind : (place : ℤ) (image after : Image) (records : List Record) → IsStopped place image records → apply_records image records ≡ Ok after → ⊥
+none_behind : (place : ℤ) (image after : Image) (records : List Record) → StopsAtLimit place image records → apply_records image records ≡ Ok after → ⊥
 none_behind place image after [] stops is = stops
 none_behind place image after (r ∷ records) stops is =
-    elim (apply_record image r) as (λ x. MatchResult x (λ mid. IsStopped place mid records) (λ why. IsTrue (is_past_limit place image r why)) → and_then x (λ mid. apply_records mid records) ≡ Ok after → ⊥) [
+    elim (apply_record image r) as (λ x. MatchResult x (λ mid. StopsAtLimit place mid records) (λ why. IsTrue (is_past_limit place image r why)) → and_then x (λ mid. apply_records mid records) ≡ Ok after → ⊥) [
       | Ok mid ↦ λ stops is. none_behind place mid after records stops is
       | Err why ↦ λ stops is. absurd cc
     ] stops is

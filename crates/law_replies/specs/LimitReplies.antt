@@ -1,5 +1,4 @@
--- Laws of replies: no error that `decide` answers is Kafka's NOT_CONTROLLER, and its POLICY_VIOLATION answers exactly an entry whose
--- records pass a limit (this project's own).
+-- Which entries of a write's reply have Kafka's POLICY_VIOLATION, and that none has NOT_CONTROLLER (this project's own).
 use Rattle.std.specs.Prelude.{◌≡◌, ◌⊎◌, ◌↔◌, ◌||◌, ℕ, ℤ, pos, Bool, false, not, List, [], ◌∷◌, Option, Result, Ok, IsTrue, MatchResult}
 use Rattle.std.specs.Ordering.{int_eq}
 use Rattle.kr_defs.specs.declared.basis.Basis.{Basis}
@@ -48,14 +47,14 @@ abbrev pub is_own : ℤ → Bool
 is_own error = not (int_eq error POLICY_VIOLATION || int_eq error NOT_CONTROLLER)
 
 -- one of the records has no meaning, and the first that has none passes a limit of the image there
-abbrev pub IsStopped : ℤ → Image → List Record → Type 0
-IsStopped place image [] = ⊥
-IsStopped place image (r ∷ records) =
-    MatchResult (apply_record image r) (λ after. IsStopped place after records) (λ cause. IsTrue (is_past_limit place image r cause))
+abbrev pub StopsAtLimit : ℤ → Image → List Record → Type 0
+StopsAtLimit place image [] = ⊥
+StopsAtLimit place image (r ∷ records) =
+    MatchResult (apply_record image r) (λ after. StopsAtLimit place after records) (λ cause. IsTrue (is_past_limit place image r cause))
 
 -- the records pass a limit: one of requests, behind the records that the request has so far, or one of the image
 abbrev pub PassesLimit : Work → List Record → Type 0
-PassesLimit work records = (is_within_limits work.records records ≡ false) ⊎ IsStopped work.place work.image records
+PassesLimit work records = (is_within_limits work.records records ≡ false) ⊎ StopsAtLimit work.place work.image records
 
 module _ {E A : Type 0} (error_of : A → ℤ) (refused : ℤ → E → A) (rule : Image → ℤ → E → Result (Draft A) ℤ) where
   -- the rule gives records of the entry, and they pass a limit
@@ -83,8 +82,8 @@ module _ {E A : Type 0} (error_of : A → ℤ) (refused : ℤ → E → A) (rule
       × GroupsTellLimits entries_of parts_of (after_all refused rule work (entries_of group)) groups answers
 
 -- what elections show of their answers: all, those that tell something, or none
-abbrev pub AreShown : Option (List ElectLeadersTopic) → List ReplicaElectionResult → List ReplicaElectionResult → Type 0
-AreShown topics given results = (results ≡ elect_leaders.shown topics given) ⊎ (results ≡ [])
+abbrev pub AreElectionsShown : Option (List ElectLeadersTopic) → List ReplicaElectionResult → List ReplicaElectionResult → Type 0
+AreElectionsShown topics given results = (results ≡ elect_leaders.shown topics given) ⊎ (results ≡ [])
 
 -- how the reply answers the request's entries, or the whole of it
 abbrev pub ReplyTellsLimits : Options → Basis → Image → ℤ → Request → Reply → Type 0
@@ -105,7 +104,7 @@ ReplyTellsLimits options basis image place (requests.AlterPartition q) (replies.
     × GroupsTellLimits (λ (answer : AlterPartitionResult). answer.error) alter_partition.refused (alter_partition.rule options q.broker) alter_partition.entries_of (λ (t : AlterPartitionTopicResult). t.partitions) (nothing_decided place image) q.topics p.topics
 ReplyTellsLimits options basis image place (requests.ElectLeaders q) (replies.ElectLeaders p) =
     IsTrue (is_own p.error) × (given : List ReplicaElectionResult)
-    × AreShown q.topics given p.results
+    × AreElectionsShown q.topics given p.results
     × GroupsTellLimits (λ (answer : PartitionElectionResult). answer.error) elect_leaders.answer (elect_leaders.rule options q.kind) elect_leaders.entries_of (λ (t : ReplicaElectionResult). t.partitions) (nothing_decided place image) (elect_leaders.groups_of image q.topics) given
 ReplyTellsLimits options basis image place (requests.AlterPartitionReassignments q) (replies.AlterPartitionReassignments p) =
     IsTrue (is_own p.error)

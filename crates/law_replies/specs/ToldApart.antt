@@ -1,4 +1,4 @@
--- A law of refusals: what `decide` answers is told from the refusal of a node that doesn't lead (this project's own).
+-- That a decided reply is told from a refusal by NOT_CONTROLLER (this project's own).
 use Rattle.std.specs.Prelude.{◌≡◌, ℕ, pos, false, []}
 use Rattle.kr_defs.specs.declared.basis.Basis.{Basis}
 use Rattle.kr_defs.specs.declared.options.Options.{Options}
