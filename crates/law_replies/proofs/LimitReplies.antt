@@ -131,12 +131,12 @@ module _ {E A : Type 0} (error_of : A → ℤ) (refused : ℤ → E → A) (rule
   settled_tells w k entry draft is own None passes =
       (record { policy = (λ _. (draft, is, passes), λ _. told over_a_limit entry); leads = ap (λ (error : ℤ). int_eq error NOT_CONTROLLER) (told over_a_limit entry) }, k)
   settled_tells w k entry draft is own (Some after) fits =
-      (own_tells w entry draft.answer own (λ passes. fits.1 (ok_same w entry draft passes.0 is passes.1.0 passes.1.1)), fits.0)
+      (own_tells w entry draft.answer own (λ passes. fits.1 (ok_same w entry draft passes.0 is passes.1 passes.2)), fits.0)
 
   done_tells : (w : Work) → IsGoing w → (entry : E) (r : Result (Draft A) ℤ) → rule w.image w.place entry ≡ r → MatchResult r (λ draft. Breaks w.place w.image draft.records) (λ error. int_eq error POLICY_VIOLATION ≡ false) → AnswersOwn error_of r → Ends w entry (done refused w entry r)
   unfolding Ends Tells done
   done_tells w k entry (Err error) is limits own =
-      (own_tells w entry (refused error entry) (subst IsOwn (sym (told error entry)) own) (λ passes. absurd (let no = sym is ∙ passes.1.0 in cc)), k)
+      (own_tells w entry (refused error entry) (subst IsOwn (sym (told error entry)) own) (λ passes. absurd (let no = sym is ∙ passes.1 in cc)), k)
   done_tells w k entry (Ok draft) is limits own = settled_tells w k entry draft is own (taken w draft.records) (is_taken w k draft.records limits)
 
   one_tells : (w : Work) → IsGoing w → (entry : E) → Ends w entry (one refused rule w entry)
@@ -184,7 +184,7 @@ module _ (options : Options) (basis : Basis) (image : Image) (place : ℕ) (vali
   if_kind q false x y first then = then
 
   tells : (request : Request) → Tell request (work_of options basis.time (heard basis) image (pos place) request)
-  unfolding work_of broker_registration.decided broker_heartbeat.decided unregister_broker.decided create_topics.decided delete_topics.decided create_partitions.decided alter_partition.decided elect_leaders.decided alter_partition_reassignments.decided incremental_alter_configs.decided
+  unfolding Ends Tells work_of broker_registration.decided broker_heartbeat.decided unregister_broker.decided create_topics.decided delete_topics.decided create_partitions.decided alter_partition.decided elect_leaders.decided alter_partition_reassignments.decided incremental_alter_configs.decided
   tells (requests.BrokerRegistration q) = (one_tells (λ (answer : BrokerRegistrationReply). answer.error) broker_registration.refused (broker_registration.rule options basis.time (heard basis)) (λ error entry. refl) (limits_alone_refuse.registrations options basis.time (heard basis)) (λ image place entry. own.registers image place options basis.time (heard basis) entry) start going q).0
   tells (requests.BrokerHeartbeat q) = (one_tells (λ (answer : BrokerHeartbeatReply). answer.error) broker_heartbeat.refused (broker_heartbeat.rule options (heard basis)) (λ error entry. refl) (limits_alone_refuse.heartbeats options (heard basis)) (λ image place entry. own.beats image place options (heard basis) entry) start going q).0
   tells (requests.UnregisterBroker q) = (one_tells (λ (answer : UnregisterBrokerReply). answer.error) unregister_broker.refused (unregister_broker.rule options) (λ error entry. refl) (limits_alone_refuse.unregistrations options) (λ image place entry. own.unregisters image place options entry) start going q).0
