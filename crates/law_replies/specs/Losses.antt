@@ -1,5 +1,4 @@
--- When a write is answered by its refusal by NOT_CONTROLLER: at once on standby alone, later because its leadership ended (this
--- project's own).
+-- When a write is refused by NOT_CONTROLLER (this project's own).
 use Rattle.std.specs.Prelude.{◌≡◌, ℤ, true, false, is_some, [], Option}
 use Rattle.kr_calls.specs.declared.calls.Request.{Request}
 use Rattle.kr_calls.specs.declared.events.Output.TheVariants as given

@@ -1,4 +1,4 @@
--- What a worker has shown after two turns without a thread. This project's own.
+-- What a worker shows after two turns. This project's own.
 use Rattle.std.specs.Prelude.{◌≡◌, ℕ, false, List, [], ◌∷◌}
 use Rattle.kr_calls.specs.declared.events.Entry.{Entry}
 use Rattle.kr_calls.specs.declared.events.Entry.TheVariants as entries

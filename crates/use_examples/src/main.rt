@@ -59,7 +59,10 @@ fn read_words<R: Env + AllocGlobal>(rt: &R) -> std::io::Result<Asked> {
 }
 
 // Does the example with all of standard input.
-fn print_one<R: Input + Print + Wait + AllocGlobal>(rt: &R, example: Example) -> anyhow::Result<()> {
+fn print_one<R: Input + Print + Wait + AllocGlobal>(
+    rt: &R,
+    example: Example,
+) -> anyhow::Result<()> {
     let mut bytes = Vec::new(rt.alloc());
     if example.reads() {
         rt.reader().read_to_end(&mut bytes)?;
