@@ -1,4 +1,3 @@
 pub mod LimitReplies
-pub mod Losses
 pub mod OwnAnswers
 pub mod ToldApart

@@ -1,6 +1,6 @@
 -- Which entries of a reply tell of a passed limit.
 use Rattle.std.proofs.Common.{◌≡◌, ◌∙◌, ◌+◌, ℕ, ℤ, pos, Bool, true, false, cond, List, [], ◌∷◌, length, refl, sym, ap, subst, inl, inr}
-use Rattle.std.specs.Prelude.{◌⊎◌, ◌↔◌, ◌+ℤ◌, not, ◌||◌, Option, Some, None, Result, Ok, Err, IsTrue, MatchResult}
+use Rattle.std.specs.Prelude.{◌+ℤ◌, not, ◌||◌, Option, Some, None, Result, Ok, Err, IsTrue, MatchResult}
 use Rattle.std.specs.Ordering.{int_eq}
 use Rattle.kr_defs.specs.declared.basis.Basis.{Basis}
 use Rattle.kr_defs.specs.declared.ill.Ill.{Ill}
@@ -44,7 +44,7 @@ use Rattle.kr_calls.specs.UnregisterBroker as unregister_broker
 use Rattle.law_replies.specs.LimitReplies.{GroupsTellLimits, HasLimit, StopsAtLimit, PassesLimit, RepliesTellLimits, ReplyTellsLimits, TellLimits, TellsLimit, is_own}
 use Rattle.law_replies.proofs.OwnAnswers as own
 use Rattle.law_replies.proofs.OwnAnswers.{AnswersOwn, IsOwn}
-use Rattle.law_safety.specs.RefusalLaws.{BreakAtLimits, IsRefusedByLimits, is_past_limit}
+use Rattle.law_safety.specs.RefusalLaws.{IsRefusedByLimits, is_past_limit}
 use Rattle.law_safety.proofs.Refusals.{Breaks, BreaksBy}
 use Rattle.law_safety.proofs.RefusedRules.{limits_alone_refuse}
 use Rattle.law_safety.proofs.SafeRequests.{valid_after}

@@ -1,9 +1,8 @@
 -- What a rule answers, with records or without: an error of its own, or none.
 use Rattle.std.proofs.Common.{◌≡◌, ℤ, ℕ, Bool, true, false, cond, not, ◌||◌, ◌&&◌, ◌==◌, ◌-◌, List, [], ◌∷◌, length, refl}
-use Rattle.std.specs.Prelude.{Option, Some, None, Result, Ok, Err, MatchResult, pos, negsuc, int_lt, int_le, nat_lt, bytes_eq, unsigned_abs}
+use Rattle.std.specs.Prelude.{Option, Some, None, Result, MatchResult, pos, negsuc, int_lt, int_le, nat_lt, bytes_eq, unsigned_abs}
 use Rattle.std.specs.List.{list_all, list_any}
 use Rattle.std.specs.Ordering.{int_cmp, int_eq}
-use Rattle.kr_defs.specs.declared.changing.Mode.TheVariants as modes
 use Rattle.kr_defs.specs.declared.options.Options.{Options}
 use Rattle.kr_defs.specs.declared.partition.Partition.{Partition}
 use Rattle.kr_defs.specs.declared.partition.PartitionChange.{PartitionChange}

@@ -3,7 +3,7 @@ use Rattle.std.proofs.Common.{◌≡◌, ℕ, ℤ, pos, true, false, List, [], �
 use Rattle.std.specs.Prelude.{Result}
 use Rattle.kr_defs.specs.declared.basis.Basis.{Basis}
 use Rattle.kr_defs.specs.declared.options.Options.{Options}
-use Rattle.kr_defs.specs.Image.{Image, IsValid}
+use Rattle.kr_defs.specs.Image.{Image}
 use Rattle.kr_calls.specs.declared.calls.Reply.{Reply}
 use Rattle.kr_calls.specs.declared.calls.Request.{Request}
 use Rattle.kr_calls.specs.declared.calls.Request.TheVariants as requests

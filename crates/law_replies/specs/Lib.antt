@@ -1,3 +1,2 @@
 pub mod LimitReplies
-pub mod Losses
 pub mod ToldApart

@@ -1,3 +1,2 @@
 pub mod Loss
 pub mod RecordNames
-pub mod StoppedTurns
