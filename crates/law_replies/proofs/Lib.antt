@@ -1,0 +1,3 @@
+pub mod LimitReplies
+pub mod OwnAnswers
+pub mod ToldApart

@@ -1,0 +1,2 @@
+pub mod LimitReplies
+pub mod ToldApart
