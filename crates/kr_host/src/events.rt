@@ -25,7 +25,11 @@ pub(crate) fn link_event(event: Event) -> Option<Event>
     ensures some { IfSome result (λ e. (e ≡ event) × IsTrue (is_link_event event)) }
     ensures none { IfNone result (is_link_event event ≡ false) }
 {
-    if event.is_of_link() { Some(event) } else { None }
+    if event.is_of_link() {
+        Some(event)
+    } else {
+        None
+    }
 }
 
 // How many bytes an event brings.
