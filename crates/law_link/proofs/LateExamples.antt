@@ -66,7 +66,7 @@ module _ (make : List Batch → List ℕ) where
                                 first = a ∷ [];
                                 more = [];
                                 split = refl;
-                                right = λ gone none. (ap (λ (x : List Batch). behind 0 (x ++ a ∷ [])) none, ap (λ (x : List Batch). make (x ++ a ∷ [])) (sym none));
+                                right = λ fed. (ap (λ (x : List Batch). behind 0 (x ++ a ∷ [])) fed.image, ap (λ (x : List Batch). make (x ++ a ∷ [])) (sym fed.image));
                               },
                               (refl, ((omega arith, inl refl), (inl refl, tt))),
                             ),

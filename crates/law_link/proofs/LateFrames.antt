@@ -294,7 +294,7 @@ module _ (make : List Batch → List ℕ) where
             },
           )
 
-    snapshot_right : (k : ℕ) (image : StoredImage) → MaySnapshot make (n.daemons k) image → IsNetwork (network_after n (Snapshot k image))
+    snapshot_right : (k : ℕ) (image : StoredImage) → MaySnapshot make p k (n.daemons k) image → IsNetwork (network_after n (Snapshot k image))
     snapshot_right k image m =
         let f = h.daemons k in
         let d = n.daemons k in
@@ -304,8 +304,8 @@ module _ (make : List Batch → List ℕ) where
           split = f.split
               ∙ (ap (λ (x : List Batch). (f.gone ++ x) ++ f.rest) m.split
               ∙ (ap (λ (x : List Batch). x ++ f.rest) (sym (append_assoc f.gone m.first m.more)) ∙ append_assoc (f.gone ++ m.first) m.more f.rest));
-          offset = (m.right f.gone f.image).0;
-          bytes = (m.right f.gone f.image).1;
+          offset = (m.right f).0;
+          bytes = (m.right f).1;
         } in
         record {
           web = h.web;

@@ -1,7 +1,8 @@
 -- Frames under way: a daemon takes what was handed in later, and what it gives reaches its link later.
 use Rattle.std.specs.Prelude.{◌≡◌, ◌<◌, ℕ, Bool, false, List, [], ◌∷◌, ◌++◌, cond, Option, None, Some, nat_eq, fold, flat_map}
 use Rattle.law_quorum.specs.Batches.{Batch, StoredImage, behind}
-use Rattle.law_quorum.specs.Laws.{IsImageOf}
+use Rattle.law_quorum.specs.History.{Point}
+use Rattle.law_quorum.specs.NodeLaws.{IsFedNode}
 use Rattle.law_quorum.specs.Nodes.{Cluster, Move, Node, moved, new_node}
 use Rattle.law_quorum.specs.Nodes as moves
 use Rattle.law_link.specs.Links.{Give, Has, IsPossible, LinkStep, MayWrite, Stray, Web, Write, handed, no_web, stepped}
@@ -110,12 +111,12 @@ network_after n step = record {
 
 -- ---- what may happen
 
--- the daemon's promise: its image is of a beginning of what it was handed, whatever the image that it loaded stands for
-pub record MaySnapshot (make : List Batch → List ℕ) (d : Node) (image : StoredImage) : Type 0 where
+-- the daemon's promise: its image is of a beginning of what it was handed, where that was a beginning of the log
+pub record MaySnapshot (make : List Batch → List ℕ) (p : Point) (k : ℕ) (d : Node) (image : StoredImage) : Type 0 where
   pub first : List Batch
   pub more : List Batch
   pub split : d.batches ≡ first ++ more
-  pub right : (gone : List Batch) → IsImageOf make d.image gone → (behind 0 (gone ++ first) ≡ image.offset) × (image.bytes ≡ make (gone ++ first))
+  pub right : (fed : IsFedNode make p k d) → (behind 0 (fed.gone ++ first) ≡ image.offset) × (image.bytes ≡ make (fed.gone ++ first))
 
 -- what daemons do, links don't; an image that a link calls for was given by its daemon, be it long ago
 abbrev pub MayAct : (List Batch → List ℕ) → Network → LinkStep → Type 0
@@ -128,7 +129,7 @@ abbrev pub MayHappen : (List Batch → List ℕ) → Network → NetworkStep →
 MayHappen make n (Act step) = MayAct make n step
 MayHappen make n (Arrive k frame rest) = n.frames k ≡ frame ∷ rest
 MayHappen make n (Emit k b) = MayWrite (n.daemons k) b
-MayHappen make n (Snapshot k image) = MaySnapshot make (n.daemons k) image
+MayHappen make n (Snapshot k image) = MaySnapshot make n.web.cluster.point k (n.daemons k) image
 
 abbrev pub AllMayHappen : (List Batch → List ℕ) → Network → List NetworkStep → Type 0
 AllMayHappen make n [] = Unit {0}
