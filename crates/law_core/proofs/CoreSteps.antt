@@ -15,7 +15,7 @@ use Rattle.law_link.proofs.FoundLeaderships.{one_key}
 use Rattle.law_link.proofs.LateFrames.{IsNetwork}
 use Rattle.law_link.proofs.LinkSteps.{CallRight, Runs, has_all, runs_at}
 use Rattle.law_link.proofs.UnderWay.{none_leads, same_epoch}
-use Rattle.law_core.specs.Core.{AppendGroup, Appended, CallAppend, CallDrop, Came, Deed, Elected, Found, FoundImage, HandBatch, HandCommit, HandImage, HandLead, HandLost, Hear, Hold, Imaged, Joined, Leading, LinkCore, MOST, Over, Pass, ROOM, Resign, Role, Serve, Standby, Stood, Won, after_asking, after_lead_when_fed, append_group, append_group_behind, asking, becomes, core_step, frames_with, leading, on_appended, on_batch, on_found, on_found_image, on_stood, on_won, resigning, with_first}
+use Rattle.law_core.specs.Core.{AppendGroup, Appended, CallAppend, CallDrop, Came, Deed, Elected, Found, FoundImage, HandBatch, HandCommit, HandImage, HandLead, HandLost, Hear, Hold, Imaged, Joined, Leading, LinkCore, MOST, Over, Pass, ROOM, Resign, Role, Serve, Standby, Stood, Won, after_asking, after_lead_when_fed, append_group, append_group_behind, asking, becomes, core_step, end_of, frames_with, leading, on_appended, on_batch, on_found, on_found_image, on_stood, on_won, resigning, with_first}
 use Rattle.law_core.specs.Runs.{IsRightOf, WasSeen, acts, behind_first, step_of}
 
 -- a role is that of a node, as its link sees it, and of its link
@@ -47,6 +47,11 @@ joined_behind (suc most) room (b ∷ bs) =
 
 joined : (b : Batch) (bs : List Batch) → (append_group b bs).0 ++ (append_group b bs).1 ≡ b ∷ bs
 joined b bs = ap (λ (xs : List Batch). b ∷ xs) (joined_behind (MOST - 1) (ROOM - length b.bytes) bs)
+
+-- batches that meet end where their counts lead
+met_end : (from : ℕ) (bs : List Batch) → Meet from bs → end_of from bs ≡ behind from bs
+met_end from [] m = refl
+met_end from (b ∷ bs) m = ap (λ (x : ℕ). end_of (x + b.count) bs) m.0 ∙ met_end (from + b.count) bs m.2
 
 differ : (a b : ℕ) → nat_eq a b ≡ false → a ≡ b → ⊥
 differ a b f same = (let t : nat_eq a b ≡ true = grind (arith, nat_tests) in let z : true ≡ false = sym t ∙ f in absurd cc)
@@ -304,6 +309,12 @@ module _ (make : List Batch → List ℕ) (k : ℕ) (r : List Batch) where
         by (Leading held asked waits) x = none n (record { fed = c.fed; role = Leading held asked waits }) (record { fed = is.fed; role = x })
 
     module _ (h : IsNetwork make n) where
+      -- those under way meet from the daemon's end on
+      asked_meet : (e : Held) (asked waits : List Batch) → IsRole (Leading e asked waits) w m → Meet w.end asked
+      asked_meet e asked waits x =
+          let leads : Runs n.web.cluster.point.leaderships k w m e e.epoch = runs_at n.web.cluster.point.leaderships k w m e e.epoch x.1 x.0 (h.web.right k) in
+          subst (Meet w.end) x.2 (meet_before w.end m.asked leads.rest (subst (Meet w.end) leads.own leads.meet))
+
       -- the batches under way stand, where a call of this leadership from the daemon's end on was seen
       seen_first : (e : Held) (first : Batch) (asked waits : List Batch) (made base : ℕ) → IsRole (Leading e (first ∷ asked) waits) w m → e.made ≡ made → first.base ≡ base
           → WasSeen n.web.cluster.point.log m made base → BatchStandsAt n.web.cluster.point.log w.end first
@@ -313,7 +324,7 @@ module _ (make : List Batch → List ℕ) (k : ℕ) (r : List Batch) where
           let called : CallRight ls k m.won s.call = has_all (CallRight ls k m.won) s.call m.calls (h.web.calls k) s.has in
           let number : s.call.epoch ≡ e.epoch = one_key (n.web.cluster.point.keys.revision + 1) s.call.epoch e.epoch ls called.leadership leads.took.leadership
           h.web.cluster.order.made called.found leads.took.found (called.key ∙ (s.key ∙ (sym key ∙ sym leads.took.key))) in
-          let meets : Meet w.end (first ∷ asked) = subst (Meet w.end) x.2 (meet_before w.end m.asked leads.rest (subst (Meet w.end) leads.own leads.meet)) in
+          let meets : Meet w.end (first ∷ asked) = asked_meet e (first ∷ asked) waits x in
           let end : base ≡ w.end = sym at ∙ meets.0 in
           let from : base_of_first s.call.group ≡ base = ap base_of_first s.group ∙ s.at in
           elim (has_all (λ (c : Call). c.epoch ≡ e.epoch → (base_of_first c.group < w.end) ⊎ (c.group ≡ m.asked)) s.call m.calls leads.tried s.has number) [
@@ -325,13 +336,14 @@ module _ (make : List Batch → List ℕ) (k : ℕ) (r : List Batch) where
 
       settle_does : (fed : ℕ) (e : Held) (first : Batch) (asked waits : List Batch) → IsCore (record { fed = fed; role = Leading e (first ∷ asked) waits }) w m
           → BatchStandsAt n.web.cluster.point.log w.end first
-          → Does n (HandCommit e (behind fed (first ∷ asked)) ∷ asking e waits) (record { fed = behind fed (first ∷ asked); role = after_asking e waits })
+          → Does n (HandCommit e (end_of fed (first ∷ asked)) ∷ asking e waits) (record { fed = end_of fed (first ∷ asked); role = after_asking e waits })
       settle_does fed e first asked waits is seen =
-          let end : behind w.end m.asked ≡ behind fed (first ∷ asked) = ap (λ (x : List Batch). behind w.end x) is.role.2 ∙ ap (λ (x : ℕ). behind x (first ∷ asked)) is.fed in
-          more n (HandCommit e (behind fed (first ∷ asked))) (asking e waits) (record { fed = behind fed (first ∷ asked); role = after_asking e waits }) (sym end)
+          let end : behind w.end m.asked ≡ end_of fed (first ∷ asked) =
+              ap (λ (x : List Batch). behind w.end x) is.role.2 ∙ sym (met_end w.end (first ∷ asked) (asked_meet e (first ∷ asked) waits is.role)) in
+          more n (HandCommit e (end_of fed (first ∷ asked))) (asking e waits) (record { fed = end_of fed (first ∷ asked); role = after_asking e waits }) (sym end)
           (record { holds = is.role.1; leads = is.role.0; first = first; others = asked; some = is.role.2; seen = seen })
-          (ask_does (after n (HandCommit e (behind fed (first ∷ asked)))) (behind fed (first ∷ asked)) e waits
-          (there k (λ t. IsCore (record { fed = behind fed (first ∷ asked); role = Leading e [] waits })
+          (ask_does (after n (HandCommit e (end_of fed (first ∷ asked)))) (end_of fed (first ∷ asked)) e waits
+          (there k (λ t. IsCore (record { fed = end_of fed (first ∷ asked); role = Leading e [] waits })
           (cond t (nodes.committed w (behind w.end m.asked)) w) (cond t (record m { asked = [] }) m))
           (record { fed = end; role = (is.role.0, is.role.1, refl, is.role.3) })))
 
@@ -346,8 +358,8 @@ module _ (make : List Batch → List ℕ) (k : ℕ) (r : List Batch) where
           by (Leading e (first ∷ asked) waits) x = at (nat_eq e.made made && nat_eq first.base base) refl
             where
               at : (t : Bool) → nat_eq e.made made && nat_eq first.base base ≡ t
-                  → Does n (cond t (becomes (behind c.fed (first ∷ asked)) (after_asking e waits) (HandCommit e (behind c.fed (first ∷ asked)) ∷ asking e waits))
-                  (becomes c.fed (Leading e (first ∷ asked) waits) [])).1 (cond t (becomes (behind c.fed (first ∷ asked)) (after_asking e waits) (HandCommit e (behind c.fed (first ∷ asked)) ∷ asking e waits))
+                  → Does n (cond t (becomes (end_of c.fed (first ∷ asked)) (after_asking e waits) (HandCommit e (end_of c.fed (first ∷ asked)) ∷ asking e waits))
+                  (becomes c.fed (Leading e (first ∷ asked) waits) [])).1 (cond t (becomes (end_of c.fed (first ∷ asked)) (after_asking e waits) (HandCommit e (end_of c.fed (first ∷ asked)) ∷ asking e waits))
                   (becomes c.fed (Leading e (first ∷ asked) waits) [])).0
               at false y = none n (record { fed = c.fed; role = Leading e (first ∷ asked) waits }) (record { fed = is.fed; role = x })
               at true y =

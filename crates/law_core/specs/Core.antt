@@ -1,6 +1,6 @@
 -- The core of a link: what it makes of what comes from its daemon and from the store.
 use Rattle.std.specs.Prelude.{ℕ, zero, suc, ◌+◌, ◌-◌, cond, ◌&&◌, List, [], ◌∷◌, ◌++◌, length, nat_eq, nat_le, nat_lt}
-use Rattle.law_quorum.specs.Batches.{Batch, StoredImage, behind}
+use Rattle.law_quorum.specs.Batches.{Batch, StoredImage}
 use Rattle.law_link.specs.Frames.{Commit, Feed, Frame, Lead, Load, Lost}
 use Rattle.law_link.specs.Links.{Held}
 
@@ -83,6 +83,11 @@ append_group_behind (suc most) room (b ∷ bs) =
 abbrev pub append_group : Batch → List Batch → AppendGroup
 append_group b bs = with_first b (append_group_behind (MOST - 1) (ROOM - length b.bytes) bs)
 
+-- where the last of them ends
+abbrev pub end_of : ℕ → List Batch → ℕ
+end_of from [] = from
+end_of from (b ∷ bs) = end_of (b.base + b.count) bs
+
 -- ---- what it becomes, and what it does
 
 abbrev pub Outcome : Type 0
@@ -143,7 +148,7 @@ on_won fed other h = becomes fed other []
 abbrev pub on_stood : ℕ → Role → ℕ → ℕ → Outcome
 on_stood fed (Leading h (first ∷ asked) waits) made base =
     cond (nat_eq h.made made && nat_eq first.base base)
-    (becomes (behind fed (first ∷ asked)) (after_asking h waits) (HandCommit h (behind fed (first ∷ asked)) ∷ asking h waits))
+    (becomes (end_of fed (first ∷ asked)) (after_asking h waits) (HandCommit h (end_of fed (first ∷ asked)) ∷ asking h waits))
     (becomes fed (Leading h (first ∷ asked) waits) [])
 on_stood fed other made base = becomes fed other []
 
