@@ -339,7 +339,7 @@ module _ (make : List Batch → List ℕ) (k : ℕ) (r : List Batch) where
           → Does n (HandCommit e (end_of fed (first ∷ asked)) ∷ asking e waits) (record { fed = end_of fed (first ∷ asked); role = after_asking e waits })
       settle_does fed e first asked waits is seen =
           let end : behind w.end m.asked ≡ end_of fed (first ∷ asked) =
-              ap (λ (x : List Batch). behind w.end x) is.role.2 ∙ sym (met_end w.end (first ∷ asked) (asked_meet e (first ∷ asked) waits is.role)) in
+          ap (λ (x : List Batch). behind w.end x) is.role.2 ∙ sym (met_end w.end (first ∷ asked) (asked_meet e (first ∷ asked) waits is.role)) in
           more n (HandCommit e (end_of fed (first ∷ asked))) (asking e waits) (record { fed = end_of fed (first ∷ asked); role = after_asking e waits }) (sym end)
           (record { holds = is.role.1; leads = is.role.0; first = first; others = asked; some = is.role.2; seen = seen })
           (ask_does (after n (HandCommit e (end_of fed (first ∷ asked)))) (end_of fed (first ∷ asked)) e waits
