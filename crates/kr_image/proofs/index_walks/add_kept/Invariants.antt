@@ -1,0 +1,9 @@
+use Rattle.kr_image.specs.inner.PartitionKeys.{IndexGrows}
+use Rattle.kr_image.proofs.MapWalks.{LeftIndex}
+use Rattle.kr_image.proofs.index_walks.add_kept.Given as goal
+
+abbrev pub invariant-loop-k : goal.invariant-loop-k
+invariant-loop-k l = record {
+  left : LeftIndex l.timeline.maps.kept l.kept.items l.k-iterator l.index;
+  grows : IndexGrows l.fn.index l.index;
+}
