@@ -1,5 +1,5 @@
 -- An index that is made by walks over all maps of a timeline is one of each.
-use Rattle.std.proofs.Common.{◌≡◌, ◌∙◌, ℕ, ℤ, true, false, ◌&&◌, ◌||◌, cond, List, [], ◌∷◌, refl, sym, ap, subst, map, find}
+use Rattle.std.proofs.Common.{◌≡◌, ◌∙◌, ℕ, ℤ, true, false, ◌&&◌, ◌||◌, cond, List, [], ◌∷◌, refl, sym, ap, subst, length, map, find}
 use Rattle.std.specs.Prelude.{Option, Some, None, All, MatchOption, unwrap_or}
 use Rattle.std.specs.declared.cmp.Ordering.{Ordering}
 use Rattle.std.specs.declared.cmp.Ordering.TheVariants.{Less, Equal}
@@ -97,12 +97,12 @@ abbrev pub LeftIndex : List KeptMap → List KeptCounts → List KeptCounts → 
 LeftIndex maps list left now =
     (later : PartitionIndex) → IndexGrows now later → AllByRecursion (λ (k : KeptCounts). IsIndexOf later (map_in maps k.epoch)) left → AllByRecursion (λ (k : KeptCounts). IsIndexOf later (map_in maps k.epoch)) list
 
-pub left_begin : (maps : List KeptMap) (list : List KeptCounts) (now : PartitionIndex) → LeftIndex maps list list now
-left_begin maps list now later grows all = all
+pub left_begin : (maps : List KeptMap) (list left : List KeptCounts) (now : PartitionIndex) → left ≡ list → LeftIndex maps list left now
+left_begin maps list left now is later grows all = subst (AllByRecursion (λ (k : KeptCounts). IsIndexOf later (map_in maps k.epoch))) is all
 
-pub left_more : (maps : List KeptMap) (list : List KeptCounts) (k : KeptCounts) (rest : List KeptCounts) (now new : PartitionIndex) → LeftIndex maps list (k ∷ rest) now → IndexGrows now new → IsIndexOf new (map_in maps k.epoch) → LeftIndex maps list rest new
-left_more maps list k rest now new left more own later grows all =
-    left later (grows_on now new later more grows) (index_more new later (map_in maps k.epoch) grows own, all)
+pub left_more : (maps : List KeptMap) (list left : List KeptCounts) (k : KeptCounts) (rest : List KeptCounts) (now new : PartitionIndex) → left ≡ k ∷ rest → LeftIndex maps list left now → IndexGrows now new → IsIndexOf new (map_in maps k.epoch) → LeftIndex maps list rest new
+left_more maps list left k rest now new is index more own later grows all =
+    index later (grows_on now new later more grows) (subst (AllByRecursion (λ (k : KeptCounts). IsIndexOf later (map_in maps k.epoch))) (sym is) (index_more new later (map_in maps k.epoch) grows own, all))
 
 -- the map that is kept under an epoch is its own
 apart : (x y : ℤ) → int_cmp x y ≡ Less → int_eq x y ≡ false
@@ -126,10 +126,16 @@ each_own : (index : PartitionIndex) (kept ds : List KeptMap) → AllByRecursion 
 each_own index kept [] own is = tt
 each_own index kept (d ∷ ds) own is = (subst (IsIndexOf index) own.0 is.0, each_own index kept ds own.1 is.1)
 
-pub left_none : (maps : List KeptMap) (list : List KeptCounts) (now : PartitionIndex) → IsStrictlySortedBy int_cmp (map (λ (k : KeptMap). k.epoch) maps) → HaveSameEpochs maps list → LeftIndex maps list [] now → InKept (IsIndexOf now) maps
-left_none maps list now rising same left =
+none_left : (left : List KeptCounts) → length left ≡ 0 → left ≡ []
+none_left [] none = refl
+none_left (k ∷ left) none = absurd cc
+
+pub left_none : (maps : List KeptMap) (list left : List KeptCounts) (now : PartitionIndex) → length left ≡ 0 → IsStrictlySortedBy int_cmp (map (λ (k : KeptMap). k.epoch) maps) → HaveSameEpochs maps list → LeftIndex maps list left now → InKept (IsIndexOf now) maps
+left_none maps list left now none rising same index =
     let P : ℤ → Type 0 = λ x. IsIndexOf now (map_in maps x) in
-    let each : AllByRecursion P (map (λ (k : KeptMap). k.epoch) maps) = subst (AllByRecursion P) (sym same) (all_mapped (λ (k : KeptCounts). k.epoch) P list (left now (grows_itself now) tt)) in
+    let of : KeptCounts → Type 0 = λ k. IsIndexOf now (map_in maps k.epoch) in
+    let all : AllByRecursion of list = index now (grows_itself now) (subst (AllByRecursion of) (sym (none_left left none)) tt) in
+    let each : AllByRecursion P (map (λ (k : KeptMap). k.epoch) maps) = subst (AllByRecursion P) (sym same) (all_mapped (λ (k : KeptCounts). k.epoch) P list all) in
     All-from_recursion (λ (k : KeptMap). IsIndexOf now k.map) maps (each_own now maps maps (own_maps maps rising) (all_map (λ (k : KeptMap). k.epoch) P maps each))
 
 pub ruleset each_epoch = (left_begin, left_more, left_none, grows_itself, grows_on)

@@ -100,12 +100,12 @@ in_weaker P Q to maps all =
 
 -- ---- an index of all
 
+pub new_index : (index : PartitionIndex) (maps : Maps) → IsIndexOf index [] → maps ≡ no_maps → InAll (IsIndexOf index) maps
+new_index index maps none is = in_none (IsIndexOf index) maps none is
+
 module _ (index : PartitionIndex) (maps after : Maps) where
   abbrev Of : List Entry → Type 0
   Of = IsIndexOf index
-
-  pub new_index : Of [] → maps ≡ no_maps → InAll Of maps
-  new_index none is = in_none Of maps none is
 
   pub same_index : InAll Of maps → after ≡ maps → InAll Of after
   same_index all same = subst (InAll Of) (sym same) all

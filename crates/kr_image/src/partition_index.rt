@@ -87,7 +87,7 @@ fn has_replicas(
 #[tactic(auto, using(crate::proofs::IndexedMaps::listed))]
 fn add_new_replicas(
     listed: &mut BrokerPartitions,
-    added: &mut u64,
+    spent: &mut u64,
     alloc: Global,
     timeline: &Timeline<(u128, i32), Partition>,
     key: &(u128, i32),
@@ -101,7 +101,7 @@ fn add_new_replicas(
     if has_replicas(timeline, key, replicas) {
         return Ok(());
     }
-    *added = added.saturating_add(1);
+    *spent = spent.saturating_add(1);
     add_replicas(listed, alloc, key, replicas)?;
     Ok(())
 }
@@ -127,7 +127,7 @@ impl PartitionIndex {
     #[tactic(auto, using(crate::proofs::IndexedMaps::standing))]
     pub(crate) fn add_next(
         &mut self,
-        added: &mut u64,
+        spent: &mut u64,
         alloc: Global,
         timeline: &Timeline<(u128, i32), Partition>,
         key: &(u128, i32),
@@ -139,7 +139,7 @@ impl PartitionIndex {
     {
         add_new_replicas(
             &mut self.listed,
-            added,
+            spent,
             alloc,
             timeline,
             key,

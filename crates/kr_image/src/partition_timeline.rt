@@ -22,10 +22,9 @@ use std::collections::VecDeque;
 use std::marker::Model;
 use std::sync::ledger::Ledger;
 
-// So many keys were added that listing all anew costs no more.
-fn is_due(added: u64, partitions: u32, epochs: usize) -> bool {
-    let maps = (epochs as u64).saturating_add(1);
-    u64::from(partitions).saturating_mul(maps) < added
+// Making the index anew takes less than half of what was spent on it.
+fn is_due(spent: u64, walks: u64) -> bool {
+    walks.saturating_mul(2) < spent
 }
 
 /// The timeline of partitions, and an index of those in the present map and in every kept one.
@@ -33,8 +32,8 @@ fn is_due(added: u64, partitions: u32, epochs: usize) -> bool {
 pub(crate) struct PartitionTimeline {
     timeline: Timeline<(u128, i32), Partition>,
     index: PartitionIndex,
-    // How many keys were listed for replicas since the index was made anew.
-    added: u64,
+    // The steps of the walks that made the index, and one for each key that was listed for replicas since.
+    spent: u64,
 }
 
 impl Model for PartitionTimeline {
@@ -59,7 +58,7 @@ impl PartitionTimeline {
         PartitionTimeline {
             timeline: Timeline::new(alloc),
             index: no_index(alloc),
-            added: 0,
+            spent: 0,
         }
     }
 
@@ -171,7 +170,7 @@ impl PartitionTimeline {
         ensures counted { OnOk result (count.new ≡ length self.new.maps.present) }
     {
         self.index
-            .add_next(&mut self.added, alloc, &self.timeline, &key, &value)?;
+            .add_next(&mut self.spent, alloc, &self.timeline, &key, &value)?;
         entries::set_counted(&mut self.timeline, count, key, value)?;
         Ok(())
     }
@@ -195,18 +194,18 @@ impl PartitionTimeline {
         Ok(())
     }
 
-    /// Makes the index anew, where so many keys were added since that it costs no more: what no map has any more isn't listed then.
-    /// Without memory it stays as it is.
-    pub(crate) fn renew(&mut self, alloc: Global, partitions: u32, kept: &VecDeque<KeptCounts>)
+    /// Makes the index anew, where walks over all maps take less than half of what was spent on it: what no map has any more
+    /// isn't listed then. Without memory it stays as it is.
+    pub(crate) fn renew(&mut self, alloc: Global, walks: u64, kept: &VecDeque<KeptCounts>)
         requires { HaveSameEpochs self.old.maps.kept kept.now.items }
         ensures { self.new ≡ self.old }
     {
-        if !is_due(self.added, partitions, kept.len()) {
+        if !is_due(self.spent, walks) {
             return;
         }
+        self.spent = walks;
         if let Ok(index) = index_of_maps(alloc, &self.timeline, kept) {
             self.index = index;
-            self.added = 0;
         }
     }
 }

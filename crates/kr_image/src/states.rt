@@ -6,7 +6,7 @@ ghost use Rattle.kr_store.specs.Images.{AreBegunFrom, ForgetsWithin, IsAbove, Re
 ghost use Rattle.kr_image.specs.Timelines.{all_above, keeps_of, made_of, present_image};
 ghost use Rattle.kr_image.specs.KeptImages.{HaveBegins, IsKept, IsStoreWith, images_of};
 
-use crate::kept_counts::{KeptCounts, begun_at, counts_at, keep_from, keep_up_to, kept_under};
+use crate::kept_counts::{KeptCounts, begun_at, counts_at, keep_from, keep_up_to, kept_under, walks_up_to};
 use crate::timelines::Timelines;
 use kr_base::{NoEpoch, NoMemory, Steps};
 use kr_store::{At, Counts};
@@ -30,7 +30,8 @@ pub(crate) fn mark(
 {
     timelines.reserve()?;
     let counts = timelines.counts;
-    kept.push_back(kept_under(epoch, counts, begun))?;
+    let walks = walks_up_to(kept, &counts);
+    kept.push_back(kept_under(epoch, counts, begun, walks))?;
     timelines.mark(epoch);
     Ok(())
 }
