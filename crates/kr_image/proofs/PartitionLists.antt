@@ -17,7 +17,7 @@ use Rattle.kr_store.specs.declared.places.At.TheVariants as places
 use Rattle.kr_image.specs.declared.kept_counts.KeptCounts.{KeptCounts}
 use Rattle.kr_image.specs.declared.partition_index.PartitionIndex.{PartitionIndex}
 use Rattle.kr_image.specs.declared.timelines.Timelines.{Timelines}
-use Rattle.kr_image.specs.inner.PartitionKeys.{HasKey, InAll, InKept, IndexGrows, IsIndexOf}
+use Rattle.kr_image.specs.inner.PartitionKeys.{HasKey, InAll, IndexGrows, IsIndexOf}
 use Rattle.kr_image.specs.KeptImages.{images_in, images_of}
 use Rattle.kr_image.specs.Timelines.{Keeps, image_in, keeps_of, map_in}
 use Rattle.kr_image.proofs.IndexedMaps.{index_gone, index_more, index_set, listed_none}
@@ -152,7 +152,8 @@ module _ (P : List Entry → Type 0) (none : P []) where
   image_kept : (epoch : ℤ) (kept : Keeps) (list : List KeptCounts) → ((x : ℤ) → P (map_in kept.partitions x)) → P (unwrap_or (option_map (λ (k : ℤ × Image). k.1) (find (λ (k : ℤ × Image). int_eq k.0 epoch) (images_in kept list))) empty).partitions
   image_kept epoch kept [] each = none
   image_kept epoch kept (k ∷ list) each =
-      elim (int_eq k.epoch epoch) as (λ b. P (unwrap_or (option_map (λ (k : ℤ × Image). k.1) (cond b (Some (k.epoch, image_in kept k.epoch)) (find (λ (k : ℤ × Image). int_eq k.0 epoch) (images_in kept list)))) empty).partitions) [
+      let own : ℤ × Image = (k.epoch, image_in kept k.epoch) in
+      elim (int_eq k.epoch epoch) as (λ b. P (unwrap_or (option_map (λ (k : ℤ × Image). k.1) (cond b (Some own) (find (λ (k : ℤ × Image). int_eq k.0 epoch) (images_in kept list)))) empty).partitions) [
         | true ↦ each k.epoch
         | false ↦ image_kept epoch kept list each
       ]

@@ -46,12 +46,7 @@ pub(crate) fn walks_over(kept: &VecDeque<KeptCounts>, counts: &Counts) -> u64 {
 }
 
 /// The epoch with its counts, the open transaction, and the steps of walks.
-pub(crate) fn kept_under(
-    epoch: &i64,
-    counts: Counts,
-    begun: &Option<i64>,
-    walks: u64,
-) -> KeptCounts
+pub(crate) fn kept_under(epoch: &i64, counts: Counts, begun: &Option<i64>, walks: u64) -> KeptCounts
     ensures { result ≡ record { epoch = epoch.now; counts = counts; begun = begun.now; walks = walks } }
 {
     KeptCounts {

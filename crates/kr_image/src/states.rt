@@ -6,7 +6,9 @@ ghost use Rattle.kr_store.specs.Images.{AreBegunFrom, ForgetsWithin, IsAbove, Re
 ghost use Rattle.kr_image.specs.Timelines.{all_above, keeps_of, made_of, present_image};
 ghost use Rattle.kr_image.specs.KeptImages.{HaveBegins, IsKept, IsStoreWith, images_of};
 
-use crate::kept_counts::{KeptCounts, begun_at, counts_at, keep_from, keep_up_to, kept_under, walks_up_to};
+use crate::kept_counts::{
+    KeptCounts, begun_at, counts_at, keep_from, keep_up_to, kept_under, walks_up_to,
+};
 use crate::timelines::Timelines;
 use kr_base::{NoEpoch, NoMemory, Steps};
 use kr_store::{At, Counts};
