@@ -1,5 +1,5 @@
 -- A timeline's index stays one of all its maps while they change.
-use Rattle.std.proofs.Common.{◌≡◌, ℕ, ℤ, true, false, cond, List, [], ◌∷◌, ◌++◌, sym, subst, filter, find, not}
+use Rattle.std.proofs.Common.{◌≡◌, ℕ, ℤ, Bool, true, false, cond, List, [], ◌∷◌, ◌++◌, sym, subst, filter, find, not}
 use Rattle.std.specs.Prelude.{Option, Some, All, int_lt, unwrap_or}
 use Rattle.std.specs.Ordering.{int_cmp, int_eq}
 use Rattle.std.specs.List.{AllByRecursion}
