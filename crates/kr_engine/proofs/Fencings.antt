@@ -2,7 +2,7 @@
 use Rattle.std.proofs.Common.{◌≡◌, ◌∙◌, sym, subst, ℤ, pos, true, false, cond, ◌+◌, ◌*◌, ◌≤◌, ◌<◌, ℕ, List, [], ◌∷◌, ◌++◌, length, drop, get_or, refl, ap, arith}
 use Rattle.std.proofs.lemmas.List.{drop_more}
 use Rattle.std.proofs.lemmas.Int.{ints}
-use Rattle.std.specs.Prelude.{◌&&◌, ◌==◌, ◌+ℤ◌, ◌-ℤ◌, ◌≤ℤ◌, Option, Some, None, Result, Ok, Err, IsSome, IsTrue, fold, int_lt, is_some, unsigned_abs}
+use Rattle.std.specs.Prelude.{◌&&◌, ◌==◌, ◌+ℤ◌, ◌-ℤ◌, ◌≤ℤ◌, Option, Some, None, Ok, IsSome, IsTrue, fold, int_lt, is_some, unsigned_abs}
 use Rattle.std.specs.List.{list_all}
 use Rattle.std.specs.Option.{option_map_or}
 use Rattle.std.specs.Ordering.{int_cmp}
@@ -12,7 +12,6 @@ use Rattle.kr_calls.specs.declared.events.Output.TheVariants as given
 use Rattle.kr_calls.specs.Deciding.{apply_records, has_few_targets, is_request, weights}
 use Rattle.kr_calls.specs.TakingOut.{fencing}
 use Rattle.kr_defs.specs.declared.broker.Broker.{Broker}
-use Rattle.kr_defs.specs.declared.ill.Ill.{Ill}
 use Rattle.kr_defs.specs.declared.limits.TheConstants.{PLACES_END}
 use Rattle.kr_defs.specs.declared.options.Options.{Options}
 use Rattle.kr_defs.specs.declared.record.Record.{Record}
@@ -22,8 +21,6 @@ use Rattle.kr_defs.specs.Image.{Image, IsValid}
 use Rattle.kr_defs.specs.ImageLaws.{as_items}
 use Rattle.kr_defs.specs.Map as entries
 use Rattle.kr_defs.proofs.Tests.{both, none_is}
-use Rattle.kr_replication.specs.FencingIndex.{Indexes, KeysOfBrokers}
-use Rattle.kr_replication.proofs.KeptIndexes.{fencing_indexed}
 use Rattle.law_batch_limits.specs.Fitting.{FitsBatch}
 use Rattle.law_batch_limits.proofs.FittingRecords.{records_fit}
 use Rattle.law_safety.proofs.FencingSizes.{fencings_fit}
@@ -125,18 +122,6 @@ absent_records options image broker absent = ap (λ (o : Option Broker). option_
 
 pub ruleset fencing_records = (registered_records, absent_records)
 
--- ---- the index
-
--- an index stays true
-abbrev image_or : Image → Result Image Ill → Image
-image_or image (Ok after) = after
-image_or image (Err cause) = image
-
-indexed_by : (listed : KeysOfBrokers) (minimum : ℤ) (image after : Image) (broker : ℤ) (o : Option Broker) → IsValid image → entries.get int_cmp image.brokers broker ≡ o
-    → apply_records image (option_map_or (λ (state : Broker). fencing minimum image broker state.epoch) o []) ≡ Ok after → Indexes listed image → Indexes listed after
-indexed_by listed minimum image after broker None valid is meaning index = subst (Indexes listed) (ap (image_or image) meaning) index
-indexed_by listed minimum image after broker (Some state) valid is meaning index = fencing_indexed listed minimum image after broker state valid is meaning index
-
 -- ---- all
 
 open_of : (e : Core) → IsReady e → IsSome e.leading → MayAppend e
@@ -154,10 +139,6 @@ module _ (e : Core) (brokers : List ℤ) (broker : ℤ) (others : List ℤ) (is 
 
   pub one_open : MayAppend e
   one_open = open_of e (engines_ready.ready e own_can.sound own_can.valid) own_can.leads
-
-  pub then_indexed : (listed : KeysOfBrokers) (between : Core) → Fences e between broker → Indexes listed e.images.tip → Indexes listed between.images.tip
-  then_indexed listed between f index =
-      indexed_by listed e.options.minimum e.images.tip between.images.tip broker (entries.get int_cmp e.images.tip.brokers broker) one_valid.tip refl f.writes.meaning index
 
   then_room : (s : State) (writes : List Write) → IsEngine e s writes → tip_of s + 10000 * length (broker ∷ others) ≤ unsigned_abs PLACES_END
   then_room s writes k = subst (λ t. unsigned_abs t + 10000 * length (broker ∷ others) ≤ unsigned_abs PLACES_END) k.tip own_can.room
@@ -259,10 +240,6 @@ module _ (start at : Core) (brokers : List ℤ) (i : ℕ) (on : FencesOn start a
   module _ (next : Core) (f : Fences at (record next { heard = leave at.heard broker }) broker) where
     pub next_fenced : next.heard ≡ at.heard → AreValid next.images → FencesOn start next brokers others
     next_fenced = one_fenced start at next brokers broker others on_there f
-
-    pub next_indexed : (listed : KeysOfBrokers) → Indexes listed at.images.tip → Indexes listed next.images.tip
-    next_indexed listed index =
-        then_indexed here (broker ∷ others) broker others refl on_there.can listed (record next { heard = leave on_there.heard broker }) (apart at next broker on_there.heard f) index
 
 pub all_fenced : (start at : Core) (brokers : List ℤ) → FencesOn start at brokers [] → FencesAll start (record at { heard = fold leave start.heard brokers }) brokers
 all_fenced start at brokers on = on.all (record at { heard = fold leave start.heard brokers }) (ap (λ h. record at { heard = h }) (sym on.left))

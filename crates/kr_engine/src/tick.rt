@@ -8,7 +8,6 @@ ghost use Rattle.kr_defs.specs.Map as entries;
 ghost use Rattle.kr_calls.specs.declared.events.Event.TheVariants as events;
 ghost use Rattle.kr_calls.specs.Deciding.{apply_records, weights};
 ghost use Rattle.kr_store.specs.Images.{AreValid, IsSettled, last_kept};
-ghost use Rattle.kr_replication.specs.FencingIndex.{Indexes};
 ghost use Rattle.kr_model.specs.Engine.{IsSound, IsStep, outputs_left};
 ghost use Rattle.kr_engine.specs.inner.Ready.{IsReady, MayAppend};
 ghost use Rattle.kr_engine.specs.inner.Tick.{lapsed_contacts, tick_reason, CanFenceAll, FencesAll, SettlesTick};
@@ -24,7 +23,6 @@ use kr_base::{NoMemory, Steps};
 use kr_calls::{Effect, Reason, Reply};
 use kr_defs::{Ids, Records};
 use kr_image::ImageStore;
-use kr_replication::FencingIndex;
 use kr_sessions::Context;
 use kr_store::{Seen, Store};
 use std::alloc::Global;
@@ -53,10 +51,8 @@ fn fencing_of<L: Ledger>(
     store: &mut ImageStore,
     context: &Context,
     broker: &i32,
-    index: &FencingIndex,
     steps: &mut Steps<L>,
 ) -> Result<Records, NoMemory>
-    requires indexed { Indexes index.now store.old.tip }
     requires natural { pos 0 ≤ℤ context.now.place }
     requires low { context.now.place ≤ℤ places_end }
     requires kept { last_kept store.old ≡ Some (context.now.place, store.old.tip) }
@@ -73,7 +69,7 @@ fn fencing_of<L: Ledger>(
         return Ok(Records::new(alloc));
     }
     let mut out = no_effect(alloc);
-    kr_brokers::fence_by(alloc, store, context, broker, index, &mut out, steps)?;
+    kr_brokers::fence(alloc, store, context, broker, &mut out, steps)?;
     Ok(out.records)
 }
 
@@ -95,11 +91,9 @@ impl Engine {
     fn fencing_records<L: Ledger>(
         &mut self,
         broker: &i32,
-        index: &FencingIndex,
         steps: &mut Steps<L>,
     ) -> Result<Records, NoMemory>
         requires open { MayAppend self.old }
-        requires indexed { Indexes index.now self.old.images.tip }
         ensures records { IfOk result (λ records. records ≡ fencing_of self.old.options self.old.images.tip broker.now) }
         ensures image { IfOk result (λ records. apply_records self.old.images.tip records ≡ Ok self.new.images.tip) }
         ensures kept { self.new.images.kept ≡ self.old.images.kept }
@@ -111,7 +105,7 @@ impl Engine {
         ensures later { steps.old ≤ steps.new }
     {
         let context = context_of(&self.options, &self.sessions, &self.time, &self.tip);
-        fencing_of(self.alloc, &mut self.store, &context, broker, index, steps)
+        fencing_of(self.alloc, &mut self.store, &context, broker, steps)
     }
 
     // The broker is fenced by one batch. It stays a contact, so that nothing is to be put back where memory is wanted.
@@ -119,11 +113,9 @@ impl Engine {
     fn fence<L: Ledger>(
         &mut self,
         broker: &i32,
-        index: &FencingIndex,
         steps: &mut Steps<L>,
     ) -> Result<(), NoMemory>
         requires open { MayAppend self.old }
-        requires indexed { Indexes index.now self.old.images.tip }
         requires valid { AreValid self.old.images }
         ensures fences { OnOk result (Fences self.old
             (record self.new { heard = leave self.old.heard broker.now }) broker.now) }
@@ -132,7 +124,7 @@ impl Engine {
         ensures valid { OnOk result (AreValid self.new.images) }
         ensures later { steps.old ≤ steps.new }
     {
-        let records = self.fencing_records(broker, index, steps)?;
+        let records = self.fencing_records(broker, steps)?;
         self.append(records)?;
         self.look_at_images();
         Ok(())
@@ -143,10 +135,8 @@ impl Engine {
     fn fence_all<L: Ledger>(
         &mut self,
         brokers: &[i32],
-        index: &FencingIndex,
         steps: &mut Steps<L>,
     ) -> Result<(), NoMemory>
-        requires indexed { Indexes index.now self.old.images.tip }
         requires can { CanFenceAll self.old brokers.now }
         ensures all { OnOk result (FencesAll self.old
             (record self.new { heard = fold leave self.old.heard brokers.now }) brokers.now) }
@@ -155,7 +145,7 @@ impl Engine {
         ensures later { steps.old ≤ steps.new }
     {
         for broker in brokers {
-            self.fence(broker, index, steps)?;
+            self.fence(broker, steps)?;
         }
         Ok(())
     }
@@ -196,13 +186,6 @@ impl Engine {
         None
     }
 
-    // The partitions that each of the brokers has a replica of.
-    fn index_of(&self, brokers: &[i32]) -> Result<FencingIndex, NoMemory>
-        ensures { IfOk result (λ index. Indexes index self.now.images.tip) }
-    {
-        FencingIndex::of(self.alloc, &Seen::tip(&self.store), brokers)
-    }
-
     #[tactic(auto, using(crate::proofs::Fencings::fence_lapsed))]
     fn fence_lapsed<L: Ledger>(&mut self, steps: &mut Steps<L>) -> Result<(), NoMemory>
         requires ready { IsReady self.old }
@@ -215,8 +198,7 @@ impl Engine {
         if lapsed.is_empty() {
             return Ok(());
         }
-        let index = self.index_of(lapsed.as_slice())?;
-        self.fence_all(lapsed.as_slice(), &index, steps)?;
+        self.fence_all(lapsed.as_slice(), steps)?;
         self.forget_contacts(lapsed.as_slice());
         Ok(())
     }
