@@ -218,14 +218,7 @@ fn add_topic_reliefs<S: Store>(
     relief.values.are_once();
     match topic_id(seen, &relief.entry.name) {
         Some(id) => {
-            add_standing_changes_of_topic(
-                alloc,
-                seen,
-                relief,
-                &relief.entry.name,
-                id,
-                records,
-            )?;
+            add_standing_changes_of_topic(alloc, seen, relief, &relief.entry.name, id, records)?;
             Ok(())
         }
         None => Ok(()),

@@ -2,6 +2,6 @@ pub mod AgreeingNames
 pub mod BrokerIds
 pub mod Counts
 pub mod EntryTests
-pub mod Leaders
+pub mod LedPartitions
 pub mod ListedWalks
 pub mod Supersets

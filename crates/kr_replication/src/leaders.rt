@@ -27,7 +27,7 @@ fn leads_at<S: Store>(seen: &Seen<S>, broker: &i32, key: &(u128, i32)) -> bool
 }
 
 // The broker leads one of the partitions with these keys.
-#[tactic(auto, using(crate::proofs::Leaders::leading))]
+#[tactic(auto, using(crate::proofs::LedPartitions::leading))]
 fn leads_any<S: Store>(seen: &Seen<S>, broker: &i32, keys: &PartitionKeys) -> bool
     ensures { result ≡ leads_any seen.now.partitions broker.now keys.now }
 {

@@ -1,9 +1,6 @@
 //! Walks over the partitions whose keys are listed.
 
-ghost use Rattle.std.specs.Prelude.{◌≡◌, ◌++◌, false, [], IfOk, OnOk, Some, fold};
-ghost use Rattle.std.specs.List.Sorted.{IsStrictlySortedBy};
-ghost use Rattle.kr_defs.specs.Map as entries;
-ghost use Rattle.kr_defs.specs.Map.{text_order};
+ghost use Rattle.std.specs.Prelude.{◌≡◌, ◌++◌, IfOk, OnOk};
 ghost use Rattle.kr_defs.specs.Walk.{changes_of, walk, walk_topic};
 ghost use Rattle.kr_replicas.specs.BrokerPartitions.{has_replica, has_standing_by};
 ghost use Rattle.kr_replication.specs.ListedWalks.{ConcernsOnly, Covers, keys_of_topic, last_key, names_of_keys, records_in_topic, records_of_keys, records_of_names, with_topic_name};
@@ -143,7 +140,6 @@ fn add_changes_of_keys<C: Change, S: Store>(
 
 /// Adds the changes of all partitions, by the name of their topic and then by index, where the rule changes none that the
 /// broker has no replica of. Only the partitions are looked at whose keys are listed for the broker.
-#[tactic(auto, using(crate::proofs::ListedWalks::nothing_changes))]
 pub fn add_changes_of_broker<C: Change, S: Store>(
     alloc: Global,
     seen: &Seen<S>,

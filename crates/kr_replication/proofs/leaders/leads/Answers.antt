@@ -1,5 +1,5 @@
 use Rattle.std.proofs.Common.{◌∙◌, []}
-use Rattle.kr_replication.proofs.Leaders.{leads_listed}
+use Rattle.kr_replication.proofs.LedPartitions.{leads_listed}
 use Rattle.kr_replication.proofs.leaders.leads.Goals as goal
 
 pub returns-in-Some : goal.returns-in-Some
