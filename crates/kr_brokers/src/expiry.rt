@@ -1,6 +1,6 @@
 //! A broker that isn't heard of is fenced.
 
-ghost use Rattle.std.specs.Prelude.{◌≡◌, ◌≤◌, ◌+◌, Ok, Some, IsOk, IsSome, OnOk, OnErr};
+ghost use Rattle.std.specs.Prelude.{◌≡◌, ◌≤◌, ◌+◌, Ok, Some, IsOk, IsSome, OnOk, OnErr, length};
 ghost use Rattle.std.specs.Ordering.{int_cmp};
 ghost use Rattle.kr_defs.specs.Map as entries;
 ghost use Rattle.kr_calls.specs.Deciding.{apply_records, weights};
@@ -36,6 +36,7 @@ fn apply_all<S: Store, L: Ledger>(
     ensures settled { IsSettled (S.images store.old) → IsSettled (S.images store.new) }
     ensures made { OnOk result ((S.images store.new).made ≤
         (S.images store.old).made + weights (S.images store.old).tip records.now) }
+    ensures counted { OnOk result (steps.new ≡ steps.old + length records.now) }
     ensures later { steps.old ≤ steps.new }
 {
     for record in records {
@@ -48,7 +49,7 @@ fn apply_all<S: Store, L: Ledger>(
     Ok(())
 }
 
-/// A broker of the contacts is fenced, as its session has expired. The reply stays as it was.
+/// A broker of the contacts is fenced, as its session has expired. The reply stays as it was. Each record is a step.
 pub fn fence<S: Store, L: Ledger>(
     alloc: Global,
     store: &mut S,
@@ -71,6 +72,7 @@ pub fn fence<S: Store, L: Ledger>(
     ensures settled { IsSettled (S.images store.old) → IsSettled (S.images store.new) }
     ensures made { OnOk result ((S.images store.new).made ≤
         (S.images store.old).made + weights (S.images store.old).tip out.new.records) }
+    ensures counted { OnOk result (steps.new ≡ steps.old + length out.new.records) }
     ensures later { steps.old ≤ steps.new }
 {
     taking_out_is_never_refused();

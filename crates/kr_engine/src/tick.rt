@@ -1,6 +1,6 @@
 //! Time goes on.
 
-ghost use Rattle.std.specs.Prelude.{◌≡◌, ◌≤◌, ◌+◌, ◌≤ℤ◌, ◌-ℤ◌, ◌&&◌, [], pos, fold, is_some, None, Some, Ok, IfOk, OnOk, OnErr, IsSome};
+ghost use Rattle.std.specs.Prelude.{◌≡◌, ◌≤◌, ◌+◌, ◌≤ℤ◌, ◌-ℤ◌, ◌&&◌, [], pos, fold, is_some, length, None, Some, Ok, IfOk, OnOk, OnErr, IsSome};
 ghost use Rattle.std.specs.Ordering.{int_cmp};
 ghost use Rattle.kr_defs.specs.declared.limits.TheConstants.{PLACES_END as places_end};
 ghost use Rattle.kr_defs.specs.Heartbeats.{AreHeartbeats, leave};
@@ -10,7 +10,8 @@ ghost use Rattle.kr_calls.specs.Deciding.{apply_records, weights};
 ghost use Rattle.kr_store.specs.Images.{AreValid, IsSettled, last_kept};
 ghost use Rattle.kr_model.specs.Engine.{IsSound, IsStep, outputs_left};
 ghost use Rattle.kr_engine.specs.inner.Ready.{IsReady, MayAppend};
-ghost use Rattle.kr_engine.specs.inner.Tick.{lapsed_contacts, tick_reason, CanFenceAll, FencesAll, SettlesTick};
+ghost use Rattle.kr_engine.specs.inner.Tick.{lapsed_contacts, tick_reason, Advances, CanFenceAll, FencesAll, SettlesTick, WithinLapsed};
+ghost use Rattle.kr_engine.specs.TickBound.{WithinTick};
 ghost use Rattle.kr_model.specs.Tick.{fencing_of};
 ghost use Rattle.kr_engine.specs.inner.Append.{Fences};
 ghost use Rattle.kr_engine.specs.inner.Changes.{BreaksOff};
@@ -63,6 +64,7 @@ fn fencing_of<L: Ledger>(
     ensures calls { store.new.kept_made ≡ store.old.kept_made }
     ensures begins { store.new.kept_begun ≡ store.old.kept_begun }
     ensures settled { IsSettled store.old → IsSettled store.new }
+    ensures counted { IfOk result (λ records. steps.new ≡ steps.old + length records) }
     ensures later { steps.old ≤ steps.new }
 {
     if !is_registered(&Seen::tip(store), broker) {
@@ -102,6 +104,7 @@ impl Engine {
         ensures begins { self.new.images.kept_begun ≡ self.old.images.kept_begun }
         ensures settled { IsSettled self.old.images → IsSettled self.new.images }
         ensures same { self.new ≡ record self.old { images = self.new.images } }
+        ensures counted { IfOk result (λ records. steps.new ≡ steps.old + length records) }
         ensures later { steps.old ≤ steps.new }
     {
         let context = context_of(&self.options, &self.sessions, &self.time, &self.tip);
@@ -110,11 +113,7 @@ impl Engine {
 
     // The broker is fenced by one batch. It stays a contact, so that nothing is to be put back where memory is wanted.
     #[tactic(auto, using(crate::proofs::Fencings::fence))]
-    fn fence<L: Ledger>(
-        &mut self,
-        broker: &i32,
-        steps: &mut Steps<L>,
-    ) -> Result<(), NoMemory>
+    fn fence<L: Ledger>(&mut self, broker: &i32, steps: &mut Steps<L>) -> Result<(), NoMemory>
         requires open { MayAppend self.old }
         requires valid { AreValid self.old.images }
         ensures fences { OnOk result (Fences self.old
@@ -122,6 +121,7 @@ impl Engine {
         ensures heard { OnOk result (self.new.heard ≡ self.old.heard) }
         ensures broken { OnErr result (BreaksOff self.old self.new) }
         ensures valid { OnOk result (AreValid self.new.images) }
+        ensures counted { OnOk result (Advances self.old self.new steps.old steps.new) }
         ensures later { steps.old ≤ steps.new }
     {
         let records = self.fencing_records(broker, steps)?;
@@ -142,6 +142,7 @@ impl Engine {
             (record self.new { heard = fold leave self.old.heard brokers.now }) brokers.now) }
         ensures heard { OnOk result (self.new.heard ≡ self.old.heard) }
         ensures broken { OnErr result (BreaksOff self.old self.new) }
+        ensures counted { OnOk result (Advances self.old self.new steps.old steps.new) }
         ensures later { steps.old ≤ steps.new }
     {
         for broker in brokers {
@@ -170,6 +171,7 @@ impl Engine {
     fn lapsed_contacts<L: Ledger>(&self, steps: &mut Steps<L>) -> Result<Ids, NoMemory>
         requires ready { IsReady self.now }
         ensures ids { IfOk result (λ ids. ids ≡ lapsed_contacts self.now) }
+        ensures bound { steps.new ≤ steps.old + length (lapsed_contacts self.now) + 1 }
         ensures later { steps.old ≤ steps.new }
     {
         let limit = session_limit(&self.time, &self.options.session_ms);
@@ -192,6 +194,7 @@ impl Engine {
         requires can { CanFenceAll self.old (lapsed_contacts self.old) }
         ensures fences { OnOk result (FencesAll self.old self.new (lapsed_contacts self.old)) }
         ensures broken { OnErr result (BreaksOff self.old self.new) }
+        ensures bound { OnOk result (WithinLapsed self.old self.new steps.old steps.new) }
         ensures later { steps.old ≤ steps.new }
     {
         let lapsed = self.lapsed_contacts(steps)?;
@@ -203,11 +206,13 @@ impl Engine {
         Ok(())
     }
 
+    #[tactic(auto, using(crate::proofs::Fencings::refused_within))]
     fn settle_tick<L: Ledger>(&mut self, steps: &mut Steps<L>) -> Result<(), NoMemory>
         requires ready { IsReady self.old }
         requires can { tick_reason self.old ≡ None → CanFenceAll self.old (lapsed_contacts self.old) }
         ensures settled { OnOk result (SettlesTick self.old self.new (tick_reason self.old)) }
         ensures broken { OnErr result (BreaksOff self.old self.new) }
+        ensures bound { OnOk result (WithinLapsed self.old self.new steps.old steps.new) }
         ensures later { steps.old ≤ steps.new }
     {
         match self.tick_reason() {
@@ -220,7 +225,8 @@ impl Engine {
     }
 
     /// Time went on: a leading controller fences the contacts whose session has ended, the one first that was heard of
-    /// longest ago. All outputs are handed out before. After want of memory nothing has changed.
+    /// longest ago. All outputs are handed out before. It takes a step for each of these contacts, one more, and one for each
+    /// record that it gives. After want of memory nothing has changed.
     #[tactic(auto, using(crate::proofs::Fencings::tick))]
     pub fn tick<L: Ledger>(&mut self, now: &i64, steps: &mut Steps<L>) -> Result<(), NoMemory>
         requires sound { IsSound self.old }
@@ -228,6 +234,7 @@ impl Engine {
         ensures step { OnOk result (IsStep self.old self.new (events.Tick now.now)) }
         ensures unchanged { OnErr result (self.new ≡ self.old) }
         ensures sound { IsSound self.new }
+        ensures bound { OnOk result (WithinTick self.old self.new now.now steps.old steps.new) }
         ensures later { steps.old ≤ steps.new }
     {
         self.look_over();
