@@ -261,4 +261,9 @@ searched es b (Err at) ordered le parted = record { found = tt; within = tt; abs
 -- with room, an insert succeeds
 pub inserted_so : {X E : Type 0} (r : Result X E) (new old put : List Entry) → new ≡ cond (is_ok r) put old → IsOk r → new ≡ put
 inserted_so (Ok x) new old put is ok = is
-inserted_so (Err e) new old put is ok = absurd ok
+inserted_so (Err e) new old put is ok = absurd (let never = ok in cc)
+
+-- no entries are in order
+pub none_ordered : (es : List Entry) → es ≡ [] → AreOrdered es
+unfolding IsStrictlySortedBy
+none_ordered es is = subst AreOrdered (sym is) tt
