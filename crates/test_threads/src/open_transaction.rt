@@ -1,6 +1,6 @@
 //! A leadership that is lost inside a transaction which another leader left open.
 
-use crate::threads::{Signs, TellingQuorum, options};
+use crate::threads::{Plan, Signs, TellingQuorum, options};
 use kr_base::{MemoryClock, OpenGate};
 use kr_calls::Event;
 use kr_defs::Bytes;
@@ -46,6 +46,7 @@ fn does_next<R: Wait>(
 }
 
 // A worker with its link and a client.
+#[derive(Drop)]
 struct Stage<'a, 'q> {
     alloc: Global,
     worker: &'a mut WorkerSeat,
@@ -91,12 +92,14 @@ impl Stage<'_, '_> {
 
     fn plays<R: Threads + Wait + Sync>(&mut self, rt: &R) -> Result<bool, Fail> {
         let (begun, ended) = (batch(self.alloc, BEGUN)?, batch(self.alloc, ENDED)?);
-        Ok(self.takes(rt, begun)
-            && self.leads_in_vain(rt)
-            && self.pins(rt, 0)
-            && self.takes(rt, ended)
-            && self.sees(0, 0)
-            && self.sees(3, 1))
+        Ok(
+            self.takes(rt, begun)
+                && self.leads_in_vain(rt)
+                && self.pins(rt, 0)
+                && self.takes(rt, ended)
+                && self.sees(0, 0)
+                && self.sees(3, 1),
+        )
     }
 }
 
@@ -104,7 +107,11 @@ impl Stage<'_, '_> {
 fn a_transaction_outlasts_a_lost_leadership(rt: HostRuntime) -> Result<(), Fail> {
     let alloc = rt.alloc();
     let signs = Signs::new();
-    let mut quorum = TellingQuorum::new(alloc, vec![in alloc; 9]?, &signs)?;
+    let plan = Plan {
+        failing: 9,
+        last: 0,
+    };
+    let mut quorum = TellingQuorum::new(alloc, plan, &signs)?;
     let mut opening = Opening::new();
     let options = options(alloc)?;
     let opened = open(&rt, alloc, &mut opening, options, 1);
