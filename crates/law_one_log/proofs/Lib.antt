@@ -1,0 +1,6 @@
+pub mod Stored
+pub mod ReadLists
+pub mod NextBatches
+pub mod DaemonStates
+pub mod DaemonFrames
+pub mod Turns
