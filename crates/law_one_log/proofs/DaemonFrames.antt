@@ -1,6 +1,7 @@
 -- Each frame that a daemon takes makes of its controller what law_link says.
 use Rattle.std.proofs.Common.{◌≡◌, ◌∙◌, sym, subst, ℕ, ℤ, pos, ◌+◌, ◌<◌, ◌≤◌, true, false, cond, List, [], ◌∷◌, ◌++◌, length, take, map, refl, ap, arith}
-use Rattle.std.specs.Prelude.{int_lt, int_eq, not, is_some, Option, Some, None, Result, Ok, Err, IsOk, filter, unsigned_abs}
+use Rattle.std.specs.Prelude.{int_lt, not, is_some, Option, Some, None, Result, Ok, Err, IsOk, filter}
+use Rattle.std.specs.Ordering.{int_eq}
 use Rattle.std.specs.Result.{result_unwrap_or}
 use Rattle.std.specs.List.{AllByRecursion, flat_map}
 use Rattle.std.proofs.lemmas.Bool.Decides.{nat_tests}
@@ -11,18 +12,20 @@ use Rattle.kr_batch.specs.declared.fault.BatchFault.{BatchFault}
 use Rattle.kr_batch.specs.Reading.{batch_of}
 use Rattle.kr_calls.specs.declared.events.Event.{Event}
 use Rattle.kr_calls.specs.declared.events.Event.TheVariants as events
+use Rattle.kr_calls.specs.declared.events.Output.{Output}
 use Rattle.kr_calls.specs.declared.events.Reason.{Reason}
 use Rattle.kr_defs.specs.declared.ill.Ill.{Ill}
 use Rattle.kr_defs.specs.declared.options.Options.{Options}
 use Rattle.kr_defs.specs.declared.record.Item.{Item}
 use Rattle.kr_defs.specs.Guard.{and_then}
 use Rattle.kr_defs.specs.Image.{Image, empty}
-use Rattle.kr_defs.specs.Log.{Log, apply_all, image_at}
+use Rattle.kr_defs.specs.Log.{Log, apply_all}
 use Rattle.kr_defs.specs.LogStates.{first_ill_at}
 use Rattle.kr_defs.proofs.Tests.{Gives, gives_done, gives_refuse, some_is}
 use Rattle.kr_snapshot.specs.declared.fault.ImageFault.{ImageFault}
 use Rattle.kr_snapshot.specs.ImageText.{image_text}
 use Rattle.kr_snapshot.specs.Reading.{image_of}
+use Rattle.kr_model.specs.declared.writes.Write.{Write}
 use Rattle.kr_model.specs.Batch.{after_batch, batch_or, end_of, take_batch, unless_ill}
 use Rattle.kr_model.specs.Events.{at_time_of, outcome, with_next_number}
 use Rattle.kr_model.specs.Lead.{after_lead, lead, may_begin_at}
@@ -42,16 +45,16 @@ use Rattle.law_link.proofs.UnderWay.{ended_joined}
 use Rattle.law_nodes.specs.Moves.{after_arrival}
 use Rattle.law_nodes.specs.Nodes.{RunNode, Waiting, after_by, after_event, at_own_end, batches_of, tells_by, told_due, told_now, told_of, waits_in, writes_with}
 use Rattle.law_nodes.specs.OneList.{Follows, batch_from, list_items}
-use Rattle.law_nodes.proofs.Invariant.{IsCore, IsNode, never}
+use Rattle.law_nodes.proofs.Invariant.{IsNode, never}
 use Rattle.law_nodes.proofs.Lists.{HasItems, batch_behind, items_append, some_behind}
 use Rattle.law_nodes.proofs.Logs
 use Rattle.law_nodes.proofs.ReadBatches.{none_led}
 use Rattle.law_nodes.proofs.Replies.{AllTold, none_waits}
 use Rattle.law_nodes.proofs.Steady.{end_moved, node_end}
 use Rattle.law_nodes.proofs.Steps.{after_is, commit_fine, fed_is, lead_fine, loaded_is, lost_is}
-use Rattle.law_one_log.specs.Daemons.{IsTaken, batches_given}
-use Rattle.law_one_log.specs.StoredBatches.{batch_in, batches_in, image_bytes, text_of_image}
-use Rattle.law_one_log.proofs.DaemonStates.{IsDaemon, apart, apart_by, node_on, noted, tip_is, with_own}
+use Rattle.law_one_log.specs.Daemons.{IsNotRefused, batches_given}
+use Rattle.law_one_log.specs.StoredBatches.{value_of_batch, batches_in, image_bytes, text_of_image}
+use Rattle.law_one_log.proofs.DaemonStates.{IsDaemon, apart, node_on, noted, tip_is, with_own}
 use Rattle.law_one_log.proofs.NextBatches.{as_led}
 use Rattle.law_one_log.proofs.ReadLists.{AllStored, IsStored, all_have, behind_items, in_append, items_in}
 
@@ -63,7 +66,7 @@ none_in : (bs : List StoredBatch) → batches_in bs ≡ [] → bs ≡ []
 none_in [] is = refl
 none_in (b ∷ bs) is = absurd cc
 
-pub none_given : (q : Result State Reason) → if_accepted q ([] : List Batch) ≡ []
+pub none_given : (q : Result State Reason) → if_accepted {X = Batch} q [] ≡ []
 none_given (Ok after) = refl
 none_given (Err reason) = refl
 
@@ -136,23 +139,25 @@ module _ (options : Options) (log : List StoredBatch) (k : ℕ) (d : Node) (n : 
         } in
         subst (λ (q : Result State Reason). IsDaemon list to (after_by options n (at event) event q)) (sym is) there
 
+    abbrev as_waiting : Event → Write → Waiting
+    as_waiting event write = record { write = write; items = list_items (batches_of options (at event) event) }
+
     -- no write waits, and so nothing is told
     told_none : (event : Event) (after : State) → answers_now options (at event) event ≡ [] → writes_of options (at event) event ≡ [] → outcome options (at event) event ≡ Ok after
         → AllTold list (told_of options k n event)
     told_none event after silent unwritten is =
-        let new : List Waiting = map (λ write. record { write = write; items = list_items (batches_of options (at event) event) }) (writes_of options (at event) event) in
         let all : writes_with options (at event) n.waiting event ≡ [] =
-        ap (λ (ws : List Waiting). ws ++ new) (i.node.idle none)
-        ∙ ap (λ ws. map (λ write. record { write = write; items = list_items (batches_of options (at event) event) }) ws) unwritten in
+        ap (λ (ws : List Waiting). ws ++ map (as_waiting event) (writes_of options (at event) event)) (i.node.idle none)
+        ∙ ap (λ (ws : List Write). map (as_waiting event) ws) unwritten in
         let there : AllTold list (tells_by options k n (at event) event (Ok after)) =
         subst (λ (ws : List Waiting). AllTold list (flat_map (told_now k) (answers_now options (at event) event) ++ told_due k after.world ws)) (sym all)
-        (subst (λ os. AllTold list (flat_map (told_now k) os ++ [])) (sym silent) tt) in
+        (subst (λ (os : List Output). AllTold list (flat_map (told_now k) os ++ [])) (sym silent) tt) in
         subst (λ (q : Result State Reason). AllTold list (tells_by options k n (at event) event q)) (sym is) there
 
     -- ---- Feed
 
     module _ (stored : AllStored log) (meet : Meet 0 log) (whole : IsOk (apply_all empty (list_items list))) (b : StoredBatch) (stands : BatchStandsAt log d.end b) where
-      before_is : list ≡ batches_in stands.before ++ batch_in b ∷ batches_in stands.after
+      before_is : list ≡ batches_in stands.before ++ value_of_batch b ∷ batches_in stands.after
       before_is = ap (λ (l : List StoredBatch). batches_in l) stands.split ∙ in_append stands.before (b ∷ stands.after)
 
       split_stored : AllStored (stands.before ++ b ∷ stands.after)
@@ -167,11 +172,11 @@ module _ (options : Options) (log : List StoredBatch) (k : ℕ) (d : Node) (n : 
           let begins = stands.begins in
           omega (arith, at, begins)
 
-      found : batch_from d.end list ≡ Some (batch_in b)
+      found : batch_from d.end list ≡ Some (value_of_batch b)
       found =
           ap (λ (l : List Batch). batch_from d.end l) before_is
-          ∙ (ap (λ (n : ℕ). batch_from n (batches_in stands.before ++ batch_in b ∷ batches_in stands.after)) (sym items_before)
-          ∙ batch_behind (batches_in stands.before) (batches_in stands.after) (batch_in b)
+          ∙ (ap (λ (n : ℕ). batch_from n (batches_in stands.before ++ value_of_batch b ∷ batches_in stands.after)) (sym items_before)
+          ∙ batch_behind (batches_in stands.before) (batches_in stands.after) (value_of_batch b)
           (all_have 0 stands.before (all_before IsStored stands.before (b ∷ stands.after) split_stored)
           (meet_before 0 stands.before (b ∷ stands.after) (subst (Meet 0) stands.split meet))))
 
@@ -181,39 +186,40 @@ module _ (options : Options) (log : List StoredBatch) (k : ℕ) (d : Node) (n : 
       abbrev f : Follows list n.state.world.log n.state.world.committed
       f = i.node.core.settles
 
-      ahead_by : (bs : List Batch) → f.ahead ≡ bs → (others : List Batch) × (f.ahead ≡ batch_in b ∷ others)
+      ahead_by : (bs : List Batch) → f.ahead ≡ bs → (others : List Batch) × (f.ahead ≡ value_of_batch b ∷ others)
       ahead_by [] is =
           let end : n.state.world.committed ≡ length (list_items list) = Logs.no_more list n.state.world.log n.state.world.committed f is in
-          let long = ap (λ (l : List Batch). length (list_items l)) before_is ∙ ap (λ (l : List Item). length l) (items_append (batches_in stands.before) (batch_in b ∷ batches_in stands.after)) in
-          let two = length-append (list_items (batches_in stands.before)) ((batch_in b).items ++ list_items (batches_in stands.after)) in
-          let three = length-append (batch_in b).items (list_items (batches_in stands.after)) in
-          let own : 0 < length (batch_in b).items = (some_behind (batches_in stands.before) (batch_in b ∷ batches_in stands.after) (subst (AllByRecursion HasItems) before_is some)).0 in
+          let long = ap (λ (l : List Batch). length (list_items l)) before_is ∙ ap (λ (l : List Item). length l) (items_append (batches_in stands.before) (value_of_batch b ∷ batches_in stands.after)) in
+          let two = length-append (list_items (batches_in stands.before)) ((value_of_batch b).items ++ list_items (batches_in stands.after)) in
+          let three = length-append (value_of_batch b).items (list_items (batches_in stands.after)) in
+          let own : 0 < length (value_of_batch b).items = (some_behind (batches_in stands.before) (value_of_batch b ∷ batches_in stands.after) (subst (AllByRecursion HasItems) before_is some)).0 in
           let here = items_before in
           let same = i.end in
           absurd (omega (arith, end, long, two, three, own, here, same))
       ahead_by (x ∷ xs) is =
           let first : batch_from n.state.world.committed list ≡ Some x = Logs.next_batch_is list n.state.world.log n.state.world.committed f x xs some is in
-          let same : x ≡ batch_in b = some_is x (batch_in b) (sym first ∙ (ap (λ (n : ℕ). batch_from n list) i.end ∙ found)) in
+          let same : x ≡ value_of_batch b = some_is x (value_of_batch b) (sym first ∙ (ap (λ (n : ℕ). batch_from n list) i.end ∙ found)) in
           (xs, is ∙ ap (λ (y : Batch). y ∷ xs) same)
 
-      feed_is : outcome options (at (events.Batch b.bytes)) (events.Batch b.bytes) ≡ take_batch n.state (batch_in b)
+      feed_is : outcome options (at (events.Batch b.bytes)) (events.Batch b.bytes) ≡ take_batch n.state (value_of_batch b)
       feed_is =
           ap (λ (o : Option ℤ). cond (is_some o) (Err (reasons.already_leading o)) (and_then (batch_or (batch_of b.bytes)) (take_batch n.state))) none
           ∙ ap (λ (r : Result Batch BatchFault). and_then (batch_or r) (take_batch n.state)) its.read
 
-      pub feeds : d.leads ≡ None → IsTaken options n (events.Batch b.bytes) → Takes (events.Batch b.bytes) (fed d b)
+      pub feeds : d.leads ≡ None → IsNotRefused options n (events.Batch b.bytes) → Takes (events.Batch b.bytes) (fed d b)
       feeds leads taken =
           let event = events.Batch b.bytes in
           let t = ok_of (outcome options (at event) event) taken in
-          let got : take_batch n.state (batch_in b) ≡ Ok t.0 = sym feed_is ∙ t.1 in
+          let got : take_batch n.state (value_of_batch b) ≡ Ok t.0 = sym feed_is ∙ t.1 in
           let ahead = ahead_by f.ahead refl in
-          let a = fed_is options list i.elected k m i.node none (batch_in b) ahead.0 ahead.1 whole in
+          let a = fed_is options list i.elected k m i.node none (value_of_batch b) ahead.0 ahead.1 whole in
           let node : IsNode list i.elected (built t.0 n.waiting []) = subst (λ (q : Result State Reason). IsNode list i.elected (after_arrival m q)) got a.0 in
           let idle : t.0.world.leading ≡ None = sym (ap (λ (q : Result State Reason). (after_arrival m q).state.world.leading) got) ∙ a.1 in
-          let after : t.0 ≡ after_batch n.state (batch_in b) = batch_taken n.state (batch_in b) t.0 got in
+          let after : t.0 ≡ after_batch n.state (value_of_batch b) = batch_taken n.state (value_of_batch b) t.0 got in
           let tip = tip_end in
           let count = its.count in
-          let end : t.0.world.committed ≡ d.end + b.count = ap (λ (s : State). s.world.committed) after ∙ omega (arith, tip, count) in
+          let up : tip_of n.state + length (value_of_batch b).items ≡ d.end + b.count = omega (arith, tip, count) in
+          let end : t.0.world.committed ≡ d.end + b.count = ap (λ (s : State). s.world.committed) after ∙ up in
           record {
             daemon = came event t.0 (fed d b) t.1 idle node leads end own_none;
             told = told_none event t.0 refl refl t.1;
@@ -282,7 +288,7 @@ module _ (options : Options) (log : List StoredBatch) (k : ℕ) (d : Node) (n : 
           ap (λ (o : Option ℤ). cond (is_some o) (Err (reasons.already_leading o)) (and_then (image_or (image_of image.bytes)) (take_image n.state))) none
           ∙ ap (λ (r : Result (ℤ × Image) ImageFault). and_then (image_or r) (take_image n.state)) (read (pos image.offset) seen bytes_are)
 
-      pub loads : d.leads ≡ None → IsTaken options n (events.Load image.bytes) → Takes (events.Load image.bytes) (loaded d image)
+      pub loads : d.leads ≡ None → IsNotRefused options n (events.Load image.bytes) → Takes (events.Load image.bytes) (loaded d image)
       loads leads taken =
           let event = events.Load image.bytes in
           let t = ok_of (outcome options (at event) event) taken in
@@ -350,9 +356,9 @@ module _ (options : Options) (log : List StoredBatch) (k : ℕ) (d : Node) (n : 
           }
 
       leads_next : int_lt (pos epoch) (pos (epoch + 1)) ≡ true
-      leads_next = grind (arith, ints)
+      leads_next = grind (arith, ints, nat_tests)
 
-      pub leads_at : IsTaken options n leads_now → Takes leads_now (told_to_lead d epoch)
+      pub leads_at : IsNotRefused options n leads_now → Takes leads_now (told_to_lead d epoch)
       leads_at taken =
           let s = at leads_now in
           let t = ok_of (outcome options s leads_now) taken in
@@ -493,7 +499,7 @@ module _ (options : Options) (log : List StoredBatch) (k : ℕ) (d : Node) (n : 
     abbrev commits_now : Event
     commits_now = events.Commit (pos epoch) (pos end)
 
-    pub commits : IsTaken options n commits_now → Takes commits_now (committed d end)
+    pub commits : IsNotRefused options n commits_now → Takes commits_now (committed d end)
     commits taken =
         let s = at commits_now in
         let t = ok_of (outcome options s commits_now) taken in

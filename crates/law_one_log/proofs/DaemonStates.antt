@@ -1,9 +1,9 @@
 -- A daemon is a controller whose state stands for what law_link says of it, and each event keeps that so.
-use Rattle.std.proofs.Common.{◌≡◌, ◌∙◌, sym, subst, ℕ, ℤ, pos, ◌+◌, List, [], ◌∷◌, ◌++◌, length, map, refl, ap, arith}
-use Rattle.std.specs.Prelude.{int_lt, ◌&&◌, Option, Some, None, Result, Ok, Err, filter}
+use Rattle.std.proofs.Common.{◌≡◌, ◌∙◌, sym, subst, ℕ, ℤ, pos, ◌+◌, true, List, [], ◌∷◌, ◌++◌, length, map, take, refl, ap, arith}
+use Rattle.std.specs.Prelude.{int_lt, ◌&&◌, Option, Some, None, Result, Ok, Err, IsOk}
 use Rattle.std.specs.List.{AllByRecursion}
 use Rattle.std.proofs.lemmas.Int.{ints}
-use Rattle.std.proofs.lemmas.List.{append-nil, append_assoc, length-append}
+use Rattle.std.proofs.lemmas.List.{append-nil, append_assoc, length-append, take_at}
 use Rattle.kr_batch.specs.declared.Batch.{Batch}
 use Rattle.kr_calls.specs.declared.calls.Ask.{Ask}
 use Rattle.kr_calls.specs.declared.calls.Ask.TheVariants as asks
@@ -11,8 +11,11 @@ use Rattle.kr_calls.specs.declared.calls.AskFault.{AskFault}
 use Rattle.kr_calls.specs.declared.events.Event.{Event}
 use Rattle.kr_calls.specs.declared.events.Event.TheVariants as events
 use Rattle.kr_calls.specs.declared.events.Reason.{Reason}
+use Rattle.kr_defs.specs.declared.ill.Ill.{Ill}
 use Rattle.kr_defs.specs.declared.options.Options.{Options}
 use Rattle.kr_defs.specs.declared.record.Item.{Item}
+use Rattle.kr_defs.specs.Image.{Image, empty}
+use Rattle.kr_defs.specs.Log.{apply_all}
 use Rattle.kr_defs.proofs.Tests.{Gives, gives_done, gives_refuse}
 use Rattle.kr_model.specs.Events.{at_time_of, outcome, time_after}
 use Rattle.kr_model.specs.Outputs.{if_accepted}
@@ -93,6 +96,20 @@ tip_is list d n i =
     let end = i.end in
     omega (arith, long, at, here, end)
 
+-- what it appended has a meaning behind what the list has below its end
+pub sense_of : (list : List Batch) (d : Node) (n : RunNode) → IsDaemon list d n → IsOk (apply_all empty (take d.end (list_items list) ++ list_items (batches_in d.own)))
+sense_of list d n i =
+    let log = n.state.world.log in
+    let end = n.state.world.committed in
+    let f = i.node.core.settles in
+    let own = list_items (batches_in d.own) in
+    let below : take d.end (list_items list) ≡ f.before ++ f.shared =
+    ap (λ (l : List Item). take d.end l) (Logs.front_is list log end f) ∙ take_at (f.before ++ f.shared) (list_items f.ahead) d.end (Logs.end_length list log end f ∙ i.end) in
+    let there : IsOk (apply_all log.image (f.shared ++ own)) =
+    subst (λ (l : List Item). IsOk (apply_all log.image l)) (f.items_are ∙ ap (λ (l : List Item). f.shared ++ l) i.node.core.tail) i.node.core.means in
+    subst (λ (l : List Item). IsOk (apply_all empty l)) (sym (append_assoc f.before f.shared own) ∙ ap (λ (l : List Item). l ++ own) (sym below))
+    (subst (λ (r : Result Image Ill). IsOk r) (sym (Logs.from_start list log end f (f.shared ++ own))) there)
+
 -- ---- an event of its own
 
 -- what was noted stays, and what the event appends is put behind it
@@ -121,9 +138,9 @@ module _ (options : Options) (list : List Batch) (k : ℕ) (d : Node) (n : RunNo
     pub daemon : IsDaemon list (with_batches d (map (λ (b : Batch). stored b) (batches_given options n event))) (after_event options n event)
     pub told : AllTold list (told_of options k n event)
 
-  lives : (event : Event) → FineAt event → LeavesEnd event → AllStored (map (λ (b : Batch). stored b) (batches_given options n event)) → AllByRecursion IsReadBatch (batches_given options n event)
+  pub serves : (event : Event) → FineAt event → LeavesEnd event → AllStored (map (λ (b : Batch). stored b) (batches_given options n event)) → AllByRecursion IsReadBatch (batches_given options n event)
       → Lives event
-  lives event fine leaves have reads =
+  serves event fine leaves have reads =
       let then = after_event options n event in
       let given = batches_given options n event in
       let kept = map (λ (b : Batch). stored b) given in
@@ -154,10 +171,6 @@ module _ (options : Options) (list : List Batch) (k : ℕ) (d : Node) (n : RunNo
       let core : IsCore list i.elected s m.settled m.unsettled = core_at list i.elected n.state m.settled m.unsettled n.state.world.count (time_after n.state.basis.time event) i.node.core in
       gives_refuse P (exhausted (pos (tip_of s))) (is_decided s.world (asks.Bare correlation fault) && is_far (pos (tip_of s))) _ (λ _.
       gives_done P s (fine options list i.elected k m event s (core_more list i.elected m.settled s m.unsettled core) (waits_both s.world.log n.waiting [] i.node.waits tt) refl))
-
-  pub serves : (event : Event) → FineAt event → LeavesEnd event → AllStored (map (λ (b : Batch). stored b) (batches_given options n event)) → AllByRecursion IsReadBatch (batches_given options n event)
-      → Lives event
-  serves = lives
 
   pub request_is : (client : ℕ) (now : ℤ) (ask : Ask) → FineAt (events.Request client now ask)
   request_is client now (asks.Call call) = request_fine options list i.elected k m i.node client now call

@@ -13,19 +13,19 @@ use Rattle.law_quorum.specs.Batches.{Batch as StoredBatch}
 use Rattle.law_nodes.specs.OneList.{list_items}
 use Rattle.law_nodes.proofs.Lists.{HasItems, items_append}
 use Rattle.law_one_log.specs.Daemons.{IsReadBatch}
-use Rattle.law_one_log.specs.StoredBatches.{batch_in, batches_in, stored, unreadable}
+use Rattle.law_one_log.specs.StoredBatches.{value_of_batch, batches_in, stored, unreadable}
 
 -- its bytes are read, as what a link reads of it says
 pub record IsStored (b : StoredBatch) : Type 0 where
-  pub read : batch_of b.bytes ≡ Ok (batch_in b)
-  pub base : (batch_in b).base ≡ pos b.base
-  pub count : length (batch_in b).items ≡ b.count
+  pub read : batch_of b.bytes ≡ Ok (value_of_batch b)
+  pub base : (value_of_batch b).base ≡ pos b.base
+  pub count : length (value_of_batch b).items ≡ b.count
 
 abbrev pub AllStored : List StoredBatch → Type 0
 AllStored bs = AllByRecursion IsStored bs
 
 pub in_append : (xs ys : List StoredBatch) → batches_in (xs ++ ys) ≡ batches_in xs ++ batches_in ys
-in_append xs ys = map-append (λ (b : StoredBatch). batch_in b) xs ys
+in_append xs ys = map-append (λ (b : StoredBatch). value_of_batch b) xs ys
 
 pub items_in : (xs ys : List StoredBatch) → list_items (batches_in (xs ++ ys)) ≡ list_items (batches_in xs) ++ list_items (batches_in ys)
 items_in xs ys = ap (λ (l : List Batch). list_items l) (in_append xs ys) ∙ items_append (batches_in xs) (batches_in ys)
@@ -34,7 +34,7 @@ items_in xs ys = ap (λ (l : List Batch). list_items l) (in_append xs ys) ∙ it
 pub behind_items : (from : ℕ) (bs : List StoredBatch) → AllStored bs → behind from bs ≡ from + length (list_items (batches_in bs))
 behind_items from [] h = omega arith
 behind_items from (b ∷ bs) h =
-    let long : length ((batch_in b).items ++ list_items (batches_in bs)) ≡ length (batch_in b).items + length (list_items (batches_in bs)) = length-append (batch_in b).items (list_items (batches_in bs)) in
+    let long : length ((value_of_batch b).items ++ list_items (batches_in bs)) ≡ length (value_of_batch b).items + length (list_items (batches_in bs)) = length-append (value_of_batch b).items (list_items (batches_in bs)) in
     let count = h.0.count in
     let rest = behind_items (from + b.count) bs h.1 in
     omega (arith, long, count, rest)
@@ -45,7 +45,7 @@ all_have from (b ∷ bs) h m = ((let count = h.0.count in let some = m.1 in omeg
 
 -- ---- what a controller writes
 
-pub reads_as : (b : Batch) → IsReadBatch b → batch_in (stored b) ≡ b
+pub reads_as : (b : Batch) → IsReadBatch b → value_of_batch (stored b) ≡ b
 reads_as b read = ap (λ (r : Result Batch BatchFault). result_unwrap_or r unreadable) read
 
 pub all_read : (bs : List Batch) → AllByRecursion IsReadBatch bs → batches_in (map (λ (b : Batch). stored b) bs) ≡ bs

@@ -1,8 +1,7 @@
 -- Each turn keeps daemons, links and store right, and what was told in the log.
-use Rattle.std.proofs.Common.{◌≡◌, ◌∙◌, sym, subst, ℕ, ℤ, pos, negsuc, ◌+◌, Bool, true, false, cond, List, [], ◌∷◌, ◌++◌, length, map, refl, ap, arith}
-use Rattle.std.specs.Prelude.{nat_eq, fold, flat_map, Option, Some, None, Result, Ok, Err, IsOk, take}
+use Rattle.std.proofs.Common.{◌≡◌, ◌∙◌, sym, subst, ℕ, ℤ, pos, negsuc, Bool, cond, List, [], ◌∷◌, ◌++◌, length, map, refl, ap, arith}
+use Rattle.std.specs.Prelude.{nat_eq, fold, Option, Result, Ok, take}
 use Rattle.std.specs.List.{AllByRecursion}
-use Rattle.std.proofs.lemmas.Bool.Decides.{nat_tests}
 use Rattle.std.proofs.lemmas.List.{append-nil, append_assoc, take_at}
 use Rattle.kr_batch.specs.declared.Batch.{Batch}
 use Rattle.kr_calls.specs.declared.calls.Ask.{Ask}
@@ -15,18 +14,18 @@ use Rattle.kr_defs.specs.Image.{Image, empty}
 use Rattle.kr_defs.specs.Log.{Log, apply_all, first}
 use Rattle.kr_snapshot.specs.ImageText.{image_text}
 use Rattle.kr_model.specs.World.{closed_of, seen_at, tip_of}
-use Rattle.law_quorum.specs.Batches.{Meet, StoredImage, behind}
+use Rattle.law_quorum.specs.Batches.{behind}
 use Rattle.law_quorum.specs.Batches.{Batch as StoredBatch}
-use Rattle.law_quorum.specs.Changes.{Change, Drop}
-use Rattle.law_quorum.specs.History.{Point, point_after}
+use Rattle.law_quorum.specs.Changes.{Drop}
+use Rattle.law_quorum.specs.History.{Point}
 use Rattle.law_quorum.specs.NodeLaws.{IsFedNode}
 use Rattle.law_quorum.specs.Nodes.{Node, committed, moved, new_node, set_node, told_to_lead}
 use Rattle.law_quorum.proofs.WholeHistories.{grows_from}
-use Rattle.law_link.specs.Frames.{Act, Arrive, Commit, Emit, Feed, Frame, Lead, Load, Lost, MayAct, MaySnapshot, Network, NetworkStep, Snapshot, daemons_of, emitted, leads_epoch, move_of, network_after, set_at}
-use Rattle.law_link.specs.Links.{Ask, Begin, Clear, Execute, Give, GiveUp, Hear, IsPossible, LetGo, LinkStep, Make, Pass, Read, Renew, Settle, Stray, Take as TakeImage, Web, Win, Write, append_of, stepped}
+use Rattle.law_link.specs.Frames.{Act, Arrive, Commit, Feed, Frame, Lead, Load, Lost, MayAct, MaySnapshot, Network, NetworkStep, Snapshot, daemons_of, move_of, network_after, set_at}
+use Rattle.law_link.specs.Links.{Clear, Execute, LinkStep, Make, Renew, Stray, Write, append_of}
 use Rattle.law_link.proofs.LateFrames.{IsNetwork, at_node, first_network, network_right}
 use Rattle.law_link.proofs.LinkSteps.{all_before}
-use Rattle.law_link.proofs.UnderWay.{after_frame, written}
+use Rattle.law_link.proofs.UnderWay.{after_frame}
 use Rattle.law_nodes.specs.Nodes.{NodeTold, RunNode, after_event, fresh_node, told_of}
 use Rattle.law_nodes.specs.OneList.{Follows, StandsIn, list_items}
 use Rattle.law_nodes.proofs.Invariant.{IsNode}
@@ -34,70 +33,17 @@ use Rattle.law_nodes.proofs.Lists.{items_append, stands_on}
 use Rattle.law_nodes.proofs.Logs
 use Rattle.law_nodes.proofs.Replies.{AllTold, told_both}
 use Rattle.law_one_log.specs.OneLog.{DaemonsSayOneLog, SaysOneLog}
-use Rattle.law_one_log.specs.Daemons.{AllMayTurn, HasMeaning, IsNoFrame, IsReadBatch, IsReadFrame, IsTaken, Link, MayTurn, Serve, System, Take, Turn, batches_given, event_of, given_steps, images_given, log_of, no_system, renewed, turned}
-use Rattle.law_one_log.specs.StoredBatches.{batches_in, image_bytes, stored, stored_image, text_of_image}
+use Rattle.law_one_log.specs.Daemons.{AllMayTurn, IsNoFrame, IsNotRefused, IsReadBatch, IsReadFrame, Link, MayTurn, Serve, System, Take, SystemTurn, batches_given, event_of, given_steps, images_given, log_batches, no_system, renewed, turned}
+use Rattle.law_one_log.specs.StoredBatches.{batches_in, image_bytes, stored_image, text_of_image}
 use Rattle.law_one_log.proofs.DaemonFrames.{Takes}
 use Rattle.law_one_log.proofs.DaemonFrames as frames
-use Rattle.law_one_log.proofs.DaemonStates.{IsDaemon, Lives, daemon_on, node_on, tip_is, with_batches}
+use Rattle.law_one_log.proofs.DaemonStates.{IsDaemon, Lives, daemon_on, node_on, sense_of, tip_is, with_batches}
 use Rattle.law_one_log.proofs.DaemonStates as states
+use Rattle.law_one_log.proofs.Emissions.{all_emitted, as_stored, emits}
+use Rattle.law_one_log.proofs.Meanings.{SenseBehind, WebHasSense, WritesSense, first_sense, itself, step_sense}
 use Rattle.law_one_log.proofs.NextBatches.{AreWritten, all_written, as_led}
 use Rattle.law_one_log.proofs.ReadLists.{AllStored, IsStored, behind_items, in_append, items_in}
 use Rattle.law_one_log.proofs.Stored.{WebHas, WritesOne, first_has, step_has}
-
-itself : (k : ℕ) → nat_eq k k ≡ true
-itself k = grind (arith, nat_tests)
-
--- ---- batches that a daemon gives its link
-
-module _ (k : ℕ) where
-  abbrev emits : List Batch → List NetworkStep
-  emits bs = map (λ (b : Batch). Emit k (stored b)) bs
-
-  abbrev as_stored : List Batch → List StoredBatch
-  as_stored bs = map (λ (b : Batch). stored b) bs
-
-  pub record IsEmitted (before after : Network) (bs : List StoredBatch) : Type 0 where
-    pub network : IsNetwork image_bytes after
-    pub has : WebHas IsStored image_bytes after.web
-    pub daemons : (j : ℕ) → after.daemons j ≡ cond (nat_eq k j) (with_batches (before.daemons k) bs) (before.daemons j)
-    pub log : after.web.cluster.point ≡ before.web.cluster.point
-
-  one_has : (n : Network) (b : StoredBatch) (t : Bool) → WebHas IsStored image_bytes n.web → IsPossible image_bytes n.web (emitted t k b) → IsStored b
-      → WebHas IsStored image_bytes (stepped n.web (emitted t k b))
-  one_has n b true h a is = step_has IsStored image_bytes n.web h (Write k b) a is
-  one_has n b false h a is = step_has IsStored image_bytes n.web h (Stray k b) a is
-
-  one_log : (n : Network) (b : StoredBatch) (t : Bool) → (stepped n.web (emitted t k b)).cluster.point ≡ n.web.cluster.point
-  one_log n b true = refl
-  one_log n b false = refl
-
-  pub all_emitted : (n : Network) (bs : List Batch) → IsNetwork image_bytes n → WebHas IsStored image_bytes n.web → AreWritten (n.daemons k) (as_stored bs) → AllStored (as_stored bs)
-      → IsEmitted n (fold network_after n (emits bs)) (as_stored bs)
-  all_emitted n [] h has w s = record {
-    network = h;
-    has = has;
-    daemons = at_node k (λ j t. n.daemons j ≡ cond t (with_batches (n.daemons k) []) (n.daemons j))
-        (ap (λ (own : List StoredBatch). record (n.daemons k) { own = own }) (sym (append-nil (n.daemons k).own))) (λ j. refl);
-    log = refl;
-  }
-  all_emitted n (b ∷ bs) h has w s =
-      let x = stored b in
-      let t = leads_epoch (n.web.cluster.nodes k).leads x.epoch in
-      let next = network_after n (Emit k x) in
-      let r = network_right image_bytes n (Emit k x) h w.0 in
-      let own : next.daemons k ≡ written (n.daemons k) x = ap (λ (q : Bool). cond q (written (n.daemons k) x) (n.daemons k)) (itself k) in
-      let rest = all_emitted next bs r.2 (one_has n x t has r.1.0 s.0) (subst (λ (d : Node). AreWritten d (as_stored bs)) (sym own) w.1) s.1 in
-      record {
-        network = rest.network;
-        has = rest.has;
-        daemons = λ j.
-            rest.daemons j
-            ∙ at_node k (λ i q. cond q (with_batches (next.daemons k) (as_stored bs)) (cond q (written (n.daemons k) x) (n.daemons i)) ≡ cond q (with_batches (n.daemons k) (x ∷ as_stored bs)) (n.daemons i))
-            (ap (λ (d : Node). with_batches d (as_stored bs)) own
-            ∙ ap (λ (l : List StoredBatch). record (n.daemons k) { own = l }) (append_assoc (n.daemons k).own (x ∷ []) (as_stored bs)))
-            (λ i. refl) j;
-        log = rest.log ∙ one_log n x t;
-      }
 
 -- the list grows
 told_on : (list more : List Batch) (ts : List NodeTold) → AllTold list ts → AllTold (list ++ more) ts
@@ -140,8 +86,9 @@ fresh_is list = record {
 pub record IsSystem (y : System) : Type 0 where
   pub network : IsNetwork image_bytes y.network
   pub has : WebHas IsStored image_bytes y.network.web
-  pub daemons : (k : ℕ) → IsDaemon (log_of y) (y.network.daemons k) (y.daemons k)
-  pub told : AllTold (log_of y) y.told
+  pub daemons : (k : ℕ) → IsDaemon (log_batches y) (y.network.daemons k) (y.daemons k)
+  pub told : AllTold (log_batches y) y.told
+  pub sense : WebHasSense y.network.web
 
 -- what daemons are, by what law_link says of each
 abbrev pub IsDaemonAt : List StoredBatch → (ℕ → Node) → (ℕ → RunNode) → Type 0
@@ -155,7 +102,7 @@ module _ (options : Options) (y : System) (h : IsSystem y) where
   p = n.web.cluster.point
 
   abbrev list : List Batch
-  list = log_of y
+  list = log_batches y
 
   -- ---- the store and links
 
@@ -169,6 +116,11 @@ module _ (options : Options) (y : System) (h : IsSystem y) where
   writes_none (Write k b) a = absurd a
   writes_none (Stray k b) a = absurd a
   writes_none other a = tt
+
+  writes_nothing : (step : LinkStep) → MayAct image_bytes n step → WritesSense n.web h.network.web h.has h.sense step
+  writes_nothing (Write k b) a = absurd a
+  writes_nothing (Stray k b) a = absurd a
+  writes_nothing other a = tt
 
   module _ (step : LinkStep) where
     abbrev next : Network
@@ -198,6 +150,7 @@ module _ (options : Options) (y : System) (h : IsSystem y) where
         has = step_has IsStored image_bytes n.web h.has step r.1.0 (writes_none step a);
         daemons = link_daemons step;
         told = told_longer step;
+        sense = step_sense n.web h.network.web h.has h.sense step r.1.0 (writes_nothing step a);
       }
 
   -- ---- a daemon
@@ -231,18 +184,18 @@ module _ (options : Options) (y : System) (h : IsSystem y) where
     no_image (Commit epoch end) now = refl
     no_image (Lost epoch) now = refl
 
-    module _ (rest : List Frame) (now : ℤ) (means : HasMeaning y) where
-      takes : (frame : Frame) → n.frames k ≡ frame ∷ rest → IsReadFrame frame → IsTaken options m (event_of frame now)
+    module _ (rest : List Frame) (now : ℤ) where
+      takes : (frame : Frame) → n.frames k ≡ frame ∷ rest → IsReadFrame frame → IsNotRefused options m (event_of frame now)
           → Takes options p.log k d m i (event_of frame now) (after_frame d frame)
       takes (Feed b) is read taken =
           let a = (network_right image_bytes n (Arrive k (Feed b) rest) h.network is).0.0 in
-          frames.feeds options p.log k d m i (i.leads ∙ ap (λ (o : Option ℕ). as_led o) a.0) h.has.log h.network.web.cluster.one.meet means b a.1 a.0 taken
+          frames.feeds options p.log k d m i (i.leads ∙ ap (λ (o : Option ℕ). as_led o) a.0) h.has.log h.network.web.cluster.one.meet h.sense.whole b a.1 a.0 taken
       takes (Load image) is read taken =
           let a = (network_right image_bytes n (Arrive k (Load image) rest) h.network is).0.0 in
-          frames.loads options p.log k d m i (i.leads ∙ ap (λ (o : Option ℕ). as_led o) a.standby) means image a.right h.has.log read a.standby taken
+          frames.loads options p.log k d m i (i.leads ∙ ap (λ (o : Option ℕ). as_led o) a.standby) h.sense.whole image a.right h.has.log read a.standby taken
       takes (Lead epoch end) is read taken =
           let a = (network_right image_bytes n (Arrive k (Lead epoch end) rest) h.network is).0.0 in
-          subst (λ (x : ℕ). IsTaken options m (events.Lead (pos epoch) (pos x) now) → Takes options p.log k d m i (events.Lead (pos epoch) (pos x) now) (told_to_lead d epoch)) (i.end ∙ a.reached)
+          subst (λ (x : ℕ). IsNotRefused options m (events.Lead (pos epoch) (pos x) now) → Takes options p.log k d m i (events.Lead (pos epoch) (pos x) now) (told_to_lead d epoch)) (i.end ∙ a.reached)
           (frames.leads_at options p.log k d m i (i.leads ∙ ap (λ (o : Option ℕ). as_led o) a.standby) epoch now) taken
       takes (Commit epoch end) is read taken =
           let r = network_right image_bytes n (Arrive k (Commit epoch end) rest) h.network is in
@@ -253,7 +206,7 @@ module _ (options : Options) (y : System) (h : IsSystem y) where
           let a = (network_right image_bytes n (Arrive k (Lost epoch) rest) h.network is).0.0 in
           frames.loses options p.log k d m i epoch a
 
-      pub take_right : (frame : Frame) → n.frames k ≡ frame ∷ rest → IsReadFrame frame → IsTaken options m (event_of frame now) → IsSystem (turned options y (Take k frame rest now))
+      pub take_right : (frame : Frame) → n.frames k ≡ frame ∷ rest → IsReadFrame frame → IsNotRefused options m (event_of frame now) → IsSystem (turned options y (Take k frame rest now))
       take_right frame is read taken =
           let event = event_of frame now in
           let r = network_right image_bytes n (Arrive k frame rest) h.network is in
@@ -270,6 +223,7 @@ module _ (options : Options) (y : System) (h : IsSystem y) where
             has = h.has;
             daemons = daemons;
             told = told_both list y.told (told_of options k m event) h.told t.told;
+            sense = h.sense;
           } in
           subst (λ (steps : List NetworkStep). IsSystem (with_daemon then (told_of options k m event) (fold network_after next steps))) (sym none) there
 
@@ -285,7 +239,8 @@ module _ (options : Options) (y : System) (h : IsSystem y) where
       serve_right : Lives options list k d m i event → AreWritten d (as_stored k given) → AllStored (as_stored k given) → images_given k m.state event ≡ []
           → IsSystem (turned options y (Serve k event))
       serve_right l written kept none =
-          let e = all_emitted k n given h.network h.has written kept in
+          let sense : SenseBehind p.log d.end (d.own ++ as_stored k given) = sense_of list (with_batches d (as_stored k given)) then l.daemon in
+          let e = all_emitted k n given h.network h.has h.sense i.own sense written kept in
           let next = fold network_after n (emits k given) in
           let steps : given_steps options k m event ≡ emits k given = ap (λ (l : List NetworkStep). emits k given ++ l) none ∙ append-nil (emits k given) in
           let daemons : IsDaemonAt p.log next.daemons (set_at k then y.daemons) =
@@ -296,6 +251,7 @@ module _ (options : Options) (y : System) (h : IsSystem y) where
             has = e.has;
             daemons = subst (λ (q : Point). IsDaemonAt q.log next.daemons (set_at k then y.daemons)) (sym e.log) daemons;
             told = subst (λ (q : Point). AllTold (batches_in q.log) (y.told ++ told_of options k m event)) (sym e.log) (told_both list y.told (told_of options k m event) h.told l.told);
+            sense = e.sense;
           } in
           subst (λ (s : List NetworkStep). IsSystem (with_daemon then (told_of options k m event) (fold network_after n s))) (sym steps) there
 
@@ -370,6 +326,7 @@ module _ (options : Options) (y : System) (h : IsSystem y) where
           has = h.has;
           daemons = at_node k (λ j q. IsDaemon list (n.daemons j) (cond q then (y.daemons j))) own h.daemons;
           told = told_both list y.told (told_of options k m events.Image) h.told l.told;
+          sense = h.sense;
         }
 
     pub serves_right : (event : Event) → IsNoFrame event → AllByRecursion IsReadBatch (batches_given options m event) → IsSystem (turned options y (Serve k event))
@@ -384,17 +341,17 @@ module _ (options : Options) (y : System) (h : IsSystem y) where
 
 -- ---- all turns
 
-turn_right : (options : Options) (y : System) (turn : Turn) → IsSystem y → MayTurn options y turn → IsSystem (turned options y turn)
+turn_right : (options : Options) (y : System) (turn : SystemTurn) → IsSystem y → MayTurn options y turn → IsSystem (turned options y turn)
 turn_right options y (Link step) h a = link_right options y h step a
-turn_right options y (Take k frame rest now) h (is, read, taken, reads, means) = take_right options y h k rest now means frame is read taken
+turn_right options y (Take k frame rest now) h (is, read, taken, reads) = take_right options y h k rest now frame is read taken
 turn_right options y (Serve k event) h (own, reads) = serves_right options y h k event own reads
 
-turns_right : (options : Options) (y : System) (turns : List Turn) → IsSystem y → AllMayTurn options y turns → IsSystem (fold (turned options) y turns)
+turns_right : (options : Options) (y : System) (turns : List SystemTurn) → IsSystem y → AllMayTurn options y turns → IsSystem (fold (turned options) y turns)
 turns_right options y [] h a = h
 turns_right options y (turn ∷ turns) h (here, a) = turns_right options (turned options y turn) turns (turn_right options y turn h here) a
 
 first_system : IsSystem no_system
-first_system = record { network = first_network image_bytes; has = first_has IsStored image_bytes; daemons = λ k. fresh_is []; told = tt }
+first_system = record { network = first_network image_bytes; has = first_has IsStored image_bytes; daemons = λ k. fresh_is []; told = tt; sense = first_sense }
 
 says_one_log : (y : System) → IsSystem y → SaysOneLog y
 says_one_log y h = record {
@@ -402,7 +359,7 @@ says_one_log y h = record {
       let c = (h.daemons k).node.core in
       let log = (y.daemons k).state.world.log in
       let end = (y.daemons k).state.world.committed in
-      record { follows = c.committed; image = Logs.same_image (log_of y) log end c.committed c.means; closed = Logs.all_closed log c.means end };
+      record { follows = c.committed; image = Logs.same_image (log_batches y) log end c.committed c.means; closed = Logs.all_closed log c.means end };
   told = h.told;
 }
 

@@ -27,13 +27,13 @@ pub record System : Type 0 where
   -- all that clients were told, by any daemon that ever was
   pub told : List NodeTold
 
-pub data Turn : Type 0 where
+pub data SystemTurn : Type 0 where
   -- the store or a link does something
-  Link : LinkStep → Turn
+  Link : LinkStep → SystemTurn
   -- a daemon takes the frame that is next, at a time; of what is under way to it that is the rest
-  Take : ℕ → Frame → List Frame → ℤ → Turn
+  Take : ℕ → Frame → List Frame → ℤ → SystemTurn
   -- a daemon takes another event
-  Serve : ℕ → Event → Turn
+  Serve : ℕ → Event → SystemTurn
 
 -- a frame is an event; a batch and an image are their bytes
 abbrev pub event_of : Frame → ℤ → Event
@@ -63,7 +63,7 @@ images_given k s other = []
 abbrev pub given_steps : Options → ℕ → RunNode → Event → List NetworkStep
 given_steps options k n event = map (λ (b : Batch). Emit k (stored b)) (batches_given options n event) ++ images_given k n.state event
 
-abbrev pub network_steps : Options → System → Turn → List NetworkStep
+abbrev pub network_steps : Options → System → SystemTurn → List NetworkStep
 network_steps options y (Link step) = Act step ∷ []
 network_steps options y (Take k frame rest now) = Arrive k frame rest ∷ given_steps options k (y.daemons k) (event_of frame now)
 network_steps options y (Serve k event) = given_steps options k (y.daemons k) event
@@ -75,21 +75,21 @@ abbrev pub renewed : LinkStep → (ℕ → RunNode) → ℕ → RunNode
 renewed (Renew k) daemons = set_at k fresh_node daemons
 renewed other daemons = daemons
 
-abbrev pub daemons_after : Options → System → Turn → ℕ → RunNode
+abbrev pub daemons_after : Options → System → SystemTurn → ℕ → RunNode
 daemons_after options y (Link step) = renewed step y.daemons
 daemons_after options y (Take k frame rest now) = set_at k (after_event options (y.daemons k) (event_of frame now)) y.daemons
 daemons_after options y (Serve k event) = set_at k (after_event options (y.daemons k) event) y.daemons
 
-abbrev pub told_by : Options → System → Turn → List NodeTold
-told_by options y (Link step) = []
-told_by options y (Take k frame rest now) = told_of options k (y.daemons k) (event_of frame now)
-told_by options y (Serve k event) = told_of options k (y.daemons k) event
+abbrev pub told_in_turn : Options → System → SystemTurn → List NodeTold
+told_in_turn options y (Link step) = []
+told_in_turn options y (Take k frame rest now) = told_of options k (y.daemons k) (event_of frame now)
+told_in_turn options y (Serve k event) = told_of options k (y.daemons k) event
 
-abbrev pub turned : Options → System → Turn → System
+abbrev pub turned : Options → System → SystemTurn → System
 turned options y turn = record {
   network = fold network_after y.network (network_steps options y turn);
   daemons = daemons_after options y turn;
-  told = y.told ++ told_by options y turn;
+  told = y.told ++ told_in_turn options y turn;
 }
 
 abbrev pub no_system : System
@@ -98,8 +98,8 @@ no_system = record { network = no_network; daemons = λ k. fresh_node; told = []
 -- ---- what may happen
 
 -- the one log
-abbrev pub log_of : System → List Batch
-log_of y = batches_in y.network.web.cluster.point.log
+abbrev pub log_batches : System → List Batch
+log_batches y = batches_in y.network.web.cluster.point.log
 
 -- the bytes of a batch, and of an image, are read as it (law_nodes' AppendsReadBack, kr_snapshot's written_images)
 abbrev pub IsReadBatch : Batch → Type 0
@@ -110,19 +110,15 @@ IsReadFrame (Load image) = (offset : ℤ) (seen : Image) → image.bytes ≡ ima
 IsReadFrame other = Unit {0}
 
 -- a daemon refuses no frame
-abbrev pub IsTaken : Options → RunNode → Event → Type 0
-IsTaken options n event = IsOk (outcome options (at_time_of n.state event) event)
+abbrev pub IsNotRefused : Options → RunNode → Event → Type 0
+IsNotRefused options n event = IsOk (outcome options (at_time_of n.state event) event)
 
--- the records of the log have a meaning, one after the other: what a leader writes has one behind its own log (law_nodes)
-abbrev pub HasMeaning : System → Type 0
-HasMeaning y = IsOk (apply_all empty (list_items (log_of y)))
-
-abbrev pub MayTurn : Options → System → Turn → Type 0
+abbrev pub MayTurn : Options → System → SystemTurn → Type 0
 MayTurn options y (Link step) = MayAct image_bytes y.network step
-MayTurn options y (Take k frame rest now) = (y.network.frames k ≡ frame ∷ rest) × IsReadFrame frame × IsTaken options (y.daemons k) (event_of frame now)
-    × AllByRecursion IsReadBatch (batches_given options (y.daemons k) (event_of frame now)) × HasMeaning y
+MayTurn options y (Take k frame rest now) = (y.network.frames k ≡ frame ∷ rest) × IsReadFrame frame × IsNotRefused options (y.daemons k) (event_of frame now)
+    × AllByRecursion IsReadBatch (batches_given options (y.daemons k) (event_of frame now))
 MayTurn options y (Serve k event) = IsNoFrame event × AllByRecursion IsReadBatch (batches_given options (y.daemons k) event)
 
-abbrev pub AllMayTurn : Options → System → List Turn → Type 0
+abbrev pub AllMayTurn : Options → System → List SystemTurn → Type 0
 AllMayTurn options y [] = Unit {0}
 AllMayTurn options y (turn ∷ turns) = MayTurn options y turn × AllMayTurn options (turned options y turn) turns

@@ -23,11 +23,11 @@ abbrev pub unreadable : Batch
 unreadable = record { base = pos 0; epoch = pos 0; time = pos 0; items = [] }
 
 -- as a controller reads it
-abbrev pub batch_in : StoredBatch → Batch
-batch_in b = result_unwrap_or (batch_of b.bytes) unreadable
+abbrev pub value_of_batch : StoredBatch → Batch
+value_of_batch b = result_unwrap_or (batch_of b.bytes) unreadable
 
 abbrev pub batches_in : List StoredBatch → List Batch
-batches_in batches = map (λ (b : StoredBatch). batch_in b) batches
+batches_in batches = map (λ (b : StoredBatch). value_of_batch b) batches
 
 -- ---- images
 
