@@ -375,7 +375,7 @@ module _ (options : Options) (log : List StoredBatch) (k : ℕ) (d : Node) (n : 
           subst (λ (end : ℕ). IsNode f_.done (pos epoch) (noted then end [])) (sym same)
           (subst (λ (bs : List Batch). IsNode f_.done (pos epoch) (noted then n.state.world.committed bs)) none_appended a.0) in
           let above : (e : ℤ) → t.0.world.leading ≡ Some e → int_lt e (pos (epoch + 1)) ≡ true =
-          λ e is. ap (λ z. int_lt z (pos (epoch + 1))) (some_is e (pos epoch) (sym is ∙ leading)) ∙ leads_next in
+          λ e is. ap (λ (z : ℤ). int_lt z (pos (epoch + 1))) (some_is e (pos epoch) (sym is ∙ leading)) ∙ leads_next in
           let there : IsDaemon list (told_to_lead d epoch) then = record {
             leads = leading;
             end = same ∙ i.end;

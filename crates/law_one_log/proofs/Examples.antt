@@ -1,9 +1,7 @@
 -- A run, computed: node 0 leads and writes a batch for a client. The append reaches the store twice, and takes effect once; the link sees the
 -- batch and commits it, and the client is told.
-use Rattle.std.proofs.Common.{◌≡◌, ℕ, ℤ, pos, List, [], ◌∷◌, ◌++◌, refl, inl, arith}
-use Rattle.std.specs.Prelude.{Some, fold}
-use Rattle.kr_batch.specs.declared.Batch.{Batch}
-use Rattle.kr_batch.specs.BatchBytes.{batch_bytes}
+use Rattle.std.proofs.Common.{◌≡◌, ℕ, ℤ, pos, List, [], ◌∷◌, refl}
+use Rattle.std.specs.Prelude.{Some, codes, false, fold}
 use Rattle.kr_calls.specs.declared.calls.Ask.TheVariants as asks
 use Rattle.kr_calls.specs.declared.calls.Reply.TheVariants as replies
 use Rattle.kr_calls.specs.declared.calls.Request.TheVariants as requests
@@ -14,7 +12,6 @@ use Rattle.kr_calls.specs.Deciding.{done, taken}
 use Rattle.kr_calls.specs.IncrementalAlterConfigs as incremental_alter_configs
 use Rattle.kr_calls.specs.NextBasis.{heartbeats_after}
 use Rattle.kr_calls.specs.Refuse as refusals
-use Rattle.std.specs.Prelude.{codes, false}
 use Rattle.kr_defs.specs.declared.options.Options.{Options}
 use Rattle.kr_defs.specs.declared.record.Item.{Item}
 use Rattle.kr_defs.specs.declared.record.Item.TheVariants as items
@@ -28,7 +25,7 @@ use Rattle.law_quorum.specs.Changes.{Campaign}
 use Rattle.law_link.specs.Frames.{Commit, Lead}
 use Rattle.law_link.specs.Links.{Ask, Begin, Call, Execute, Hear, Held, Make, Settle, Win}
 use Rattle.law_nodes.specs.Nodes.{NodeTold}
-use Rattle.law_one_log.specs.Daemons.{Link, Serve, Take, SystemTurn, no_system, turned}
+use Rattle.law_one_log.specs.Daemons.{Link, Serve, SystemTurn, Take, no_system, turned}
 use Rattle.law_one_log.specs.StoredBatches.{stored}
 
 abbrev options : Options
@@ -79,6 +76,7 @@ told_then = refl
 
 -- the log has it once
 log_then : (fold (turned options) no_system run).network.web.cluster.point.log ≡ batch ∷ []
+unfolding work_of incremental_alter_configs.decided done taken apply_record apply image_at state_at apply_at open_at value_bytes heartbeats_after refusals.refuse
 log_then = refl
 
 -- what the link is told of it is what the daemon gave

@@ -6,3 +6,4 @@ pub mod DaemonFrames
 pub mod Meanings
 pub mod Emissions
 pub mod Turns
+pub mod Examples

@@ -19,7 +19,7 @@ use Rattle.law_quorum.specs.Nodes.{Node, after_loss, committed, ended_batches, f
 use Rattle.law_quorum.proofs.FedNodes.{begins_log}
 use Rattle.law_quorum.proofs.KeptLog.{both}
 use Rattle.law_quorum.proofs.Places.{behind_append, meet_before}
-use Rattle.law_link.specs.Links.{Ask, Begin, Call, Clear, Execute, Give, GiveUp, Has, Hear, Held, IsFree, IsPossible, LetGo, Link, LinkStep, Make, MayAsk, MaySettle, Pass, Read, Renew, Settle, Stray, Take, Web, Win, Write, append_of, leadership_at, no_web, set_link, stepped}
+use Rattle.law_link.specs.Links.{Ask, Begin, Call, Clear, Execute, Give, GiveUp, Has, Hear, Held, IsFree, IsPossible, LetGo, Link, LinkStep, Make, MayAsk, MaySettle, Pass, Read, Renew, Settle, Stray, Take, Web, Win, Write, append_of, idle, leadership_at, no_web, set_link, stepped}
 use Rattle.law_link.proofs.FoundLeaderships.{Stays, found_epoch, found_led, found_longer, found_other, is_latest, longer_by, no_append_stays, refused_stays, same_leadership}
 use Rattle.law_link.proofs.LateFrames.{at_node}
 use Rattle.law_link.proofs.LinkSteps.{CallRight, IsWeb, Runs, all_before, all_map2, has_all, of_epoch, runs_at, up_to}
@@ -113,10 +113,10 @@ module _ (w : Web) (h : IsWeb image_bytes w) (s : WebHas IsStored image_bytes w)
     views = λ k. subst (λ (l : List Batch). ViewHasSense l (w.cluster.nodes k)) (sym same) (g.views k);
     calls = λ k. all_map2 (CallRight ls k (w.links k).won) (CallHasSense ls log) (CallHasSense (point_after p change).leaderships (point_after p change).log)
         (λ c r sense l found.
-            let is : r.leadership ≡ l = same_leadership r.leadership l (sym (stays.on c.epoch r.leadership r.found) ∙ found) in
-            subst (λ (x : Leadership). (base_of_first c.group < behind 0 (x.start ++ x.wrote)) ⊎ ((base_of_first c.group ≡ behind 0 (x.start ++ x.wrote)) × SenseBehind (point_after p change).log (base_of_first c.group) c.group)) is
-            (subst (λ (y : List Batch). (base_of_first c.group < behind 0 (r.leadership.start ++ r.leadership.wrote)) ⊎ ((base_of_first c.group ≡ behind 0 (r.leadership.start ++ r.leadership.wrote)) × SenseBehind y (base_of_first c.group) c.group)) (sym same)
-            (sense r.leadership r.found)))
+        let is : r.leadership ≡ l = same_leadership r.leadership l (sym (stays.on c.epoch r.leadership r.found) ∙ found) in
+        subst (λ (x : Leadership). (base_of_first c.group < behind 0 (x.start ++ x.wrote)) ⊎ ((base_of_first c.group ≡ behind 0 (x.start ++ x.wrote)) × SenseBehind (point_after p change).log (base_of_first c.group) c.group)) is
+        (subst (λ (y : List Batch). (base_of_first c.group < behind 0 (r.leadership.start ++ r.leadership.wrote)) ⊎ ((base_of_first c.group ≡ behind 0 (r.leadership.start ++ r.leadership.wrote)) × SenseBehind y (base_of_first c.group) c.group)) (sym same)
+        (sense r.leadership r.found)))
         (w.links k).calls (h.calls k) (g.calls k);
   }
 
@@ -353,17 +353,17 @@ module _ (w : Web) (h : IsWeb image_bytes w) (s : WebHas IsStored image_bytes w)
   step_sense (Clear k keep) a new =
       kept_sense (Drop keep.before keep.image) (no_append_stays p (Drop keep.before keep.image) h.cluster.order tt) (none_appended p (Drop keep.before keep.image) refl)
   step_sense (Make change) a new = kept_sense change (free_stays change a) (none_appended p change (free_none change a))
-  step_sense (Win k e) a new = web_with (stepped w (Win k e)).cluster.nodes (stepped w (Win k e)).links g.views (link_with k _ (g.calls k))
+  step_sense (Win k e) a new = web_with (stepped w (Win k e)).cluster.nodes (stepped w (Win k e)).links g.views (link_with k (record { held = Some e; asked = []; waits = []; pipe = (w.links k).pipe; won = e.epoch ∷ (w.links k).won; calls = (w.links k).calls; keeps = (w.links k).keeps }) (g.calls k))
   step_sense (Read k b) a new = web_with (stepped w (Read k b)).cluster.nodes (stepped w (Read k b)).links (node_with k (fed (w.cluster.nodes k) b) (idle_view (fed (w.cluster.nodes k) b) a.0)) g.calls
   step_sense (Take k image) a new = web_with (stepped w (Take k image)).cluster.nodes (stepped w (Take k image)).links (node_with k (loaded (w.cluster.nodes k) image) (idle_view (loaded (w.cluster.nodes k) image) a.standby)) g.calls
-  step_sense (Begin k e) a new = web_with (stepped w (Begin k e)).cluster.nodes (stepped w (Begin k e)).links (node_with k (told_to_lead (w.cluster.nodes k) e.epoch) (begun_view k e.epoch)) (link_with k _ (g.calls k))
-  step_sense (Write k b) a new = web_with (stepped w (Write k b)).cluster.nodes (stepped w (Write k b)).links (node_with k (written (w.cluster.nodes k) b) (λ epoch leads. new)) (link_with k _ (g.calls k))
-  step_sense (Stray k b) a new = web_with (stepped w (Stray k b)).cluster.nodes (stepped w (Stray k b)).links g.views (link_with k _ (g.calls k))
-  step_sense (Hear k b rest) a new = web_with (stepped w (Hear k b rest)).cluster.nodes (stepped w (Hear k b rest)).links g.views (link_with k _ (g.calls k))
-  step_sense (Pass k b rest) a new = web_with (stepped w (Pass k b rest)).cluster.nodes (stepped w (Pass k b rest)).links g.views (link_with k _ (g.calls k))
-  step_sense (Ask k e group rest) a new = web_with (stepped w (Ask k e group rest)).cluster.nodes (stepped w (Ask k e group rest)).links g.views (link_with k _ (asked_sense k e group rest a, g.calls k))
-  step_sense (Settle k e) a new = web_with (stepped w (Settle k e)).cluster.nodes (stepped w (Settle k e)).links (node_with k (committed (w.cluster.nodes k) (behind (w.cluster.nodes k).end (w.links k).asked)) (settled_view k e a)) (link_with k _ (g.calls k))
-  step_sense (Give k keep) a new = web_with (stepped w (Give k keep)).cluster.nodes (stepped w (Give k keep)).links g.views (link_with k _ (g.calls k))
-  step_sense (GiveUp k epoch) a new = web_with (stepped w (GiveUp k epoch)).cluster.nodes (stepped w (GiveUp k epoch)).links (node_with k (after_loss (w.cluster.nodes k)) (idle_view (after_loss (w.cluster.nodes k)) refl)) (link_with k _ (g.calls k))
-  step_sense (LetGo k) a new = web_with (stepped w (LetGo k)).cluster.nodes (stepped w (LetGo k)).links g.views (link_with k _ (g.calls k))
-  step_sense (Renew k) a new = web_with (stepped w (Renew k)).cluster.nodes (stepped w (Renew k)).links (node_with k new_node (idle_view new_node refl)) (link_with k _ (g.calls k))
+  step_sense (Begin k e) a new = web_with (stepped w (Begin k e)).cluster.nodes (stepped w (Begin k e)).links (node_with k (told_to_lead (w.cluster.nodes k) e.epoch) (begun_view k e.epoch)) (link_with k (record (w.links k) { asked = []; waits = [] }) (g.calls k))
+  step_sense (Write k b) a new = web_with (stepped w (Write k b)).cluster.nodes (stepped w (Write k b)).links (node_with k (written (w.cluster.nodes k) b) (λ epoch leads. new)) (link_with k (record (w.links k) { pipe = (w.links k).pipe ++ b ∷ [] }) (g.calls k))
+  step_sense (Stray k b) a new = web_with (stepped w (Stray k b)).cluster.nodes (stepped w (Stray k b)).links g.views (link_with k (record (w.links k) { pipe = (w.links k).pipe ++ b ∷ [] }) (g.calls k))
+  step_sense (Hear k b rest) a new = web_with (stepped w (Hear k b rest)).cluster.nodes (stepped w (Hear k b rest)).links g.views (link_with k (record (w.links k) { pipe = rest; waits = (w.links k).waits ++ b ∷ [] }) (g.calls k))
+  step_sense (Pass k b rest) a new = web_with (stepped w (Pass k b rest)).cluster.nodes (stepped w (Pass k b rest)).links g.views (link_with k (record (w.links k) { pipe = rest }) (g.calls k))
+  step_sense (Ask k e group rest) a new = web_with (stepped w (Ask k e group rest)).cluster.nodes (stepped w (Ask k e group rest)).links g.views (link_with k (record (w.links k) { asked = group; waits = rest; calls = record { epoch = e.epoch; made = e.made; group = group } ∷ (w.links k).calls }) (asked_sense k e group rest a, g.calls k))
+  step_sense (Settle k e) a new = web_with (stepped w (Settle k e)).cluster.nodes (stepped w (Settle k e)).links (node_with k (committed (w.cluster.nodes k) (behind (w.cluster.nodes k).end (w.links k).asked)) (settled_view k e a)) (link_with k (record (w.links k) { asked = [] }) (g.calls k))
+  step_sense (Give k keep) a new = web_with (stepped w (Give k keep)).cluster.nodes (stepped w (Give k keep)).links g.views (link_with k (record (w.links k) { keeps = keep ∷ (w.links k).keeps }) (g.calls k))
+  step_sense (GiveUp k epoch) a new = web_with (stepped w (GiveUp k epoch)).cluster.nodes (stepped w (GiveUp k epoch)).links (node_with k (after_loss (w.cluster.nodes k)) (idle_view (after_loss (w.cluster.nodes k)) refl)) (link_with k (idle (w.links k)) (g.calls k))
+  step_sense (LetGo k) a new = web_with (stepped w (LetGo k)).cluster.nodes (stepped w (LetGo k)).links g.views (link_with k (idle (w.links k)) (g.calls k))
+  step_sense (Renew k) a new = web_with (stepped w (Renew k)).cluster.nodes (stepped w (Renew k)).links (node_with k new_node (idle_view new_node refl)) (link_with k (record (idle (w.links k)) { pipe = [] }) (g.calls k))
