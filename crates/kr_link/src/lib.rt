@@ -1,0 +1,15 @@
+//! A node's link between its daemon and the store, without input or output: what comes of daemon, store and clock in, frames for the
+//! daemon and calls of the store out.
+#![tactic(auto)]
+
+mod actions;
+mod batch;
+mod link_core;
+mod roles;
+mod waiting;
+
+pub use actions::{Action, Frame, Guard, Outbox};
+pub use batch::{Batch, BatchFault, StoredImage};
+pub use link_core::LinkCore;
+pub use roles::{Held, Leading, Role};
+pub use waiting::Waiting;
