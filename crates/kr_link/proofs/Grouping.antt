@@ -1,8 +1,9 @@
 -- Batches that go together in an append.
-use Rattle.std.proofs.Common.{◌≡◌, ◌∙◌, sym, ℕ, zero, suc, ◌+◌, ◌-◌, ◌<◌, ◌≤◌, Bool, true, false, cond, List, [], ◌∷◌, ◌++◌, length, drop, get_or, refl, ap, subst, arith, append_assoc}
+use Rattle.std.proofs.Common.{◌≡◌, ◌∙◌, sym, ℕ, zero, suc, ◌+◌, ◌-◌, ◌<◌, ◌≤◌, Bool, true, false, cond, List, [], ◌∷◌, ◌++◌, length, drop, get_or, refl, ap, subst, arith, append_assoc, append-nil}
 use Rattle.std.proofs.lemmas.Bool.Decides.{nat_tests}
 use Rattle.std.proofs.lemmas.Bool.{cond-true, cond-false, leb-true}
-use Rattle.std.specs.Prelude.{◌==◌, nat_le, Option, Some, None, option_map_or, slice_get}
+use Rattle.std.specs.Prelude.{◌==◌, nat_le, Option, Some, None, option_to_list, slice_get}
+use Rattle.std.specs.Option.{option_map_or}
 use Rattle.law_quorum.specs.Batches.{Batch}
 use Rattle.law_quorum.specs.Changes.{base_of_first}
 use Rattle.law_core.specs.Core.{AppendGroup, append_group_behind, end_of, with_first}
@@ -89,6 +90,16 @@ pub others_stay : (room : ℕ) (waits rest : List Batch) → is_within room wait
 others_stay room [] rest e is = absurd cc
 others_stay room (b ∷ bs) rest e is = is ∙ sym (cond-true (nat_le (length b.bytes) room) bs (b ∷ bs) e)
 
+pub none_popped : (waits : List Batch) (first : Option Batch) → ((d : Batch) → 0 < length waits → first ≡ Some (get_or waits 0 d)) → first ≡ None → length waits ≡ 0
+none_popped [] first is none = refl
+none_popped (b ∷ bs) first is none = (let one : first ≡ Some b = is b (omega arith) in absurd cc)
+
+pub one_popped : (waits rest : List Batch) (b : Batch) (first : Option Batch) → waits ≡ option_to_list first ++ rest → first ≡ Some b → waits ≡ b ∷ rest
+one_popped waits rest b first is some = is ∙ ap (λ (o : Option Batch). option_to_list o ++ rest) some
+
+pub none_left : (waits rest : List Batch) (first : Option Batch) → waits ≡ option_to_list first ++ rest → first ≡ None → waits ≡ rest
+none_left waits rest first is none = is ∙ ap (λ (o : Option Batch). option_to_list o ++ rest) none
+
 pub none_grouped : (waits : List Batch) → length waits ≡ 0 → waiting_group waits ≡ ([], waits)
 none_grouped [] e = refl
 none_grouped (b ∷ bs) e = absurd (omega arith)
@@ -104,16 +115,36 @@ module _ (waits rest : List Batch) (first : Batch) (room : ℕ) (is : waits ≡ 
   pub rest_of_first : (after : List Batch) → after ≡ (append_group_behind 99 room rest).1 → after ≡ (waiting_group waits).1
   rest_of_first after r = r ∙ sym (ap (λ (x : AppendGroup). x.1) grouped)
 
--- ---- a loop's step
+-- ---- a loop's step, and its ends
 
-module _ (most room : ℕ) (waits group : List Batch) where
-  pub next_group : (after more : List Batch) (b : Batch) → 0 < most → Some b ≡ fitted room waits → after ≡ left_behind room waits → more ≡ group ++ b ∷ []
-      → more ++ (append_group_behind (most - 1) (room - length b.bytes) after).0 ≡ group ++ (append_group_behind most room waits).0
-  next_group after more b some first rest m =
-      let g : AppendGroup = append_group_behind (most - 1) (room - length b.bytes) after in
+module _ (most room : ℕ) (waits group : List Batch) (some : 0 < most) where
+  pub next_group : (after more : List Batch) (b : Batch) (size : ℕ) → Some b ≡ fitted room waits → after ≡ left_behind room waits → more ≡ group ++ b ∷ [] → size ≡ length b.bytes
+      → more ++ (append_group_behind (most - 1) (room - size) after).0 ≡ group ++ (append_group_behind most room waits).0
+  next_group after more b size first rest m is =
+      let g : AppendGroup = append_group_behind (most - 1) (room - size) after in
       let one : more ++ g.0 ≡ group ++ (b ∷ g.0) = ap (λ (bs : List Batch). bs ++ g.0) m ∙ append_assoc group (b ∷ []) g.0 in
-      one ∙ sym (ap (λ (x : AppendGroup). group ++ x.0) (with_next most room waits after b some first rest))
+      let sized : group ++ (b ∷ g.0) ≡ group ++ (b ∷ (append_group_behind (most - 1) (room - length b.bytes) after).0) =
+      ap (λ (n : ℕ). group ++ (b ∷ (append_group_behind (most - 1) (room - n) after).0)) is in
+      one ∙ (sized ∙ sym (ap (λ (x : AppendGroup). group ++ x.0) (with_next most room waits after b some first rest)))
 
-  pub next_rest : (after : List Batch) (b : Batch) → 0 < most → Some b ≡ fitted room waits → after ≡ left_behind room waits
-      → (append_group_behind (most - 1) (room - length b.bytes) after).1 ≡ (append_group_behind most room waits).1
-  next_rest after b some first rest = sym (ap (λ (x : AppendGroup). x.1) (with_next most room waits after b some first rest))
+  pub next_rest : (after : List Batch) (b : Batch) (size : ℕ) → Some b ≡ fitted room waits → after ≡ left_behind room waits → size ≡ length b.bytes
+      → (append_group_behind (most - 1) (room - size) after).1 ≡ (append_group_behind most room waits).1
+  next_rest after b size first rest is =
+      ap (λ (n : ℕ). (append_group_behind (most - 1) (room - n) after).1) is ∙ sym (ap (λ (x : AppendGroup). x.1) (with_next most room waits after b some first rest))
+
+  pub none_group : (total after : List Batch) → None ≡ fitted room waits → after ≡ left_behind room waits → group ++ (append_group_behind most room waits).0 ≡ total → group ≡ total
+  none_group total after first rest all =
+      sym (append-nil group) ∙ (sym (ap (λ (x : AppendGroup). group ++ x.0) (with_none most room waits after some first rest)) ∙ all)
+
+  pub none_rest : (total after : List Batch) → None ≡ fitted room waits → after ≡ left_behind room waits → (append_group_behind most room waits).1 ≡ total → after ≡ total
+  none_rest total after first rest all = sym (ap (λ (x : AppendGroup). x.1) (with_none most room waits after some first rest)) ∙ all
+
+module _ (most room : ℕ) (waits group : List Batch) (over : most ≤ 0) where
+  full : append_group_behind most room waits ≡ ([], waits)
+  full = (let zero_left : most ≡ 0 = omega arith in ap (λ (m : ℕ). append_group_behind m room waits) zero_left ∙ with_most room waits)
+
+  pub full_group : (total : List Batch) → group ++ (append_group_behind most room waits).0 ≡ total → group ≡ total
+  full_group total all = sym (append-nil group) ∙ (sym (ap (λ (x : AppendGroup). group ++ x.0) full) ∙ all)
+
+  pub full_rest : (total : List Batch) → (append_group_behind most room waits).1 ≡ total → waits ≡ total
+  full_rest total all = sym (ap (λ (x : AppendGroup). x.1) full) ∙ all

@@ -1,5 +1,6 @@
 -- What a link holds of the leadership, as `law_core` has it.
-use Rattle.std.specs.Prelude.{ℕ, Bool, true, false, not, ◌&&◌, nat_eq, nat_lt, Option, Some, None, option_map_or}
+use Rattle.std.specs.Prelude.{ℕ, Bool, true, false, not, ◌&&◌, nat_eq, nat_lt, Option, Some, None}
+use Rattle.std.specs.Option.{option_map_or}
 use Rattle.law_quorum.specs.Batches.{Batch, StoredImage}
 use Rattle.law_link.specs.Links.{Held as AnyHeld}
 use Rattle.law_core.specs.Core.{Role as AnyRole}

@@ -1,6 +1,6 @@
 //! Batches of the log and images of its beginning, as a link passes them on: their bytes are shared, and read by nobody here.
 
-ghost use Rattle.std.specs.Prelude.{◌≡◌, ◌+◌, IfOk};
+ghost use Rattle.std.specs.Prelude.{◌≡◌, ◌+◌, IfOk, length};
 ghost use Rattle.kr_link.specs.Faults.{IsBatchOrFault};
 
 use kr_base::{NoMemory, Shared};
@@ -92,6 +92,13 @@ impl Batch {
         ensures { result.now ≡ self.now.bytes }
     {
         self.bytes.get().as_slice()
+    }
+
+    /// How many bytes it has.
+    pub fn size(&self) -> usize
+        ensures { result ≡ length self.now.bytes }
+    {
+        self.bytes.get().len()
     }
 }
 

@@ -1,6 +1,7 @@
 //! Batches that wait for an append, and those that go together in one.
 
-ghost use Rattle.std.specs.Prelude.{◌==◌, ◌≡◌, ◌++◌, ◌∷◌, ◌-◌, [], IfOk, OnOk, false, length, nat_le, option_map_or, slice_get};
+ghost use Rattle.std.specs.Prelude.{◌==◌, ◌≡◌, ◌++◌, ◌∷◌, ◌-◌, [], IfOk, OnOk, false, length, nat_le, slice_get};
+ghost use Rattle.std.specs.Option.{option_map_or};
 ghost use Rattle.law_quorum.specs.Batches.{Batch as AnyBatch};
 ghost use Rattle.law_quorum.specs.Changes.{base_of_first};
 ghost use Rattle.law_core.specs.Core.{append_group_behind, end_of};
@@ -99,7 +100,7 @@ fn is_first_within(waits: &VecDeque<Batch>, room: usize) -> bool
         (slice_get waits.now.items 0) false }
 {
     match waits.front() {
-        Some(first) => first.bytes().len() <= room,
+        Some(first) => first.size() <= room,
         None => false,
     }
 }
@@ -128,12 +129,14 @@ fn fill(
 {
     let mut most = MOST_TOGETHER - 1;
     while most > 0 {
-        let Some(next) = pop_fitting(waits, room) else {
-            return Ok(());
-        };
-        room -= next.bytes().len();
-        group.push(next)?;
-        most -= 1;
+        match pop_fitting(waits, room) {
+            None => return Ok(()),
+            Some(next) => {
+                room -= next.size();
+                group.push(next)?;
+                most -= 1;
+            }
+        }
     }
     Ok(())
 }
@@ -146,7 +149,7 @@ fn take_group(waits: &mut VecDeque<Batch>, alloc: Global) -> Result<Rows<Batch>,
     match waits.pop_front() {
         None => Ok(group),
         Some(first) => {
-            let room = ROOM_TOGETHER.saturating_sub(first.bytes().len());
+            let room = ROOM_TOGETHER.saturating_sub(first.size());
             group.push(first)?;
             fill(waits, &mut group, room)?;
             Ok(group)
