@@ -25,7 +25,7 @@ granted lease is_granted = record lease { asked = cond (lease.is_renewing && is_
 -- ---- campaigns: their tokens count up, and each is answered once
 
 abbrev pub has_token : Campaigns → Bool
-has_token c = nat_lt (c.next + 1) (2 ^ 64)
+has_token c = nat_lt c.next (2 ^ 64 - 1)
 
 abbrev pub campaign_at : Campaigns → ℕ → Campaign
 campaign_at c now = record { token = c.next; asked = now }

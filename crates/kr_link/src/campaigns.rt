@@ -37,12 +37,14 @@ impl Campaigns {
         ensures campaign { result ≡ next_campaign self.old now }
         ensures after { self.new ≡ begun_with self.old now }
     {
-        let next = self.next.checked_add(1)?;
+        if self.next >= u64::MAX {
+            return None;
+        }
         let campaign = Campaign {
             token: self.next,
             asked: now,
         };
-        self.next = next;
+        self.next += 1;
         self.under_way = Some(campaign);
         Some(campaign)
     }
