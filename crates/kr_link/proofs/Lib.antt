@@ -1,2 +1,2 @@
+pub mod CoreSteps
 pub mod Grouping
-pub mod Roles

@@ -1,6 +1,6 @@
 //! What a link sends its daemon, and what it calls for.
 
-ghost use Rattle.std.specs.Prelude.{◌≡◌, ◌++◌, ℕ, [], OnOk, option_to_list};
+ghost use Rattle.std.specs.Prelude.{◌≡◌, ◌++◌, ℕ, [], OnOk, if◌then◌else◌, option_to_list};
 ghost use Rattle.kr_base.specs.Causes.{raised};
 ghost use Rattle.kr_link.specs.Outgoing.{counted, put};
 

@@ -2,7 +2,7 @@ use Rattle.std.proofs.Common.{◌≡◌, ◌∙◌, sym, ap, List}
 use Rattle.law_core.specs.Core.{resigning}
 use Rattle.kr_link.specs.Outgoing.{Outgoing, put_all}
 use Rattle.kr_link.specs.Roles.{role_of}
-use Rattle.kr_link.proofs.Roles.{over_core, over_out}
+use Rattle.kr_link.proofs.CoreSteps.{over_core, over_out}
 use Rattle.kr_link.proofs.link_core.LinkCore.end.Goals as goal
 
 pub returns-clause-core : goal.returns-clause-core

@@ -2,7 +2,7 @@ use Rattle.std.proofs.Common.{◌≡◌, ◌∙◌, sym, ap, List}
 use Rattle.law_core.specs.Core.{Outcome}
 use Rattle.kr_link.specs.Outgoing.{put_all}
 use Rattle.kr_link.specs.Roles.{role_of}
-use Rattle.kr_link.proofs.Roles.{found_core, found_other, found_out}
+use Rattle.kr_link.proofs.CoreSteps.{found_core, found_other, found_out}
 use Rattle.kr_link.proofs.link_core.LinkCore.find.Goals as goal
 
 pub returns-then-not-is_next-clause-core : goal.returns-then-not-is_next-clause-core

@@ -1,6 +1,6 @@
 use Rattle.std.proofs.Common.{◌≡◌, ◌∙◌, sym, ap, List}
 use Rattle.kr_link.specs.Roles.{role_of}
-use Rattle.kr_link.proofs.Roles.{heard_core, heard_out}
+use Rattle.kr_link.proofs.CoreSteps.{heard_core, heard_out}
 use Rattle.kr_link.proofs.link_core.LinkCore.hear.Goals as goal
 
 pub returns-clause-core : goal.returns-clause-core

@@ -3,7 +3,7 @@ use Rattle.law_core.specs.Core.{Outcome, Role}
 use Rattle.law_core.specs.Core as laws
 use Rattle.kr_link.specs.Outgoing.{put_all}
 use Rattle.kr_link.specs.Roles.{held_of, role_of}
-use Rattle.kr_link.proofs.Roles.{won_first, won_more}
+use Rattle.kr_link.proofs.CoreSteps.{won_first, won_more}
 use Rattle.kr_link.proofs.link_core.LinkCore.win.Goals as goal
 
 pub returns-then-is_held-clause-core : goal.returns-then-is_held-clause-core

@@ -2,7 +2,7 @@ use Rattle.std.proofs.Common.{◌≡◌, ◌∙◌, sym, ap, List}
 use Rattle.law_core.specs.Core.{Deed}
 use Rattle.kr_link.specs.Outgoing.{put_all}
 use Rattle.kr_link.specs.Roles.{held_of}
-use Rattle.kr_link.proofs.Roles.{asks_nothing, not_ready, ready_out, ready_role}
+use Rattle.kr_link.proofs.CoreSteps.{asks_nothing, not_ready, ready_out, ready_role}
 use Rattle.kr_link.proofs.roles.Leading.ask.Goals as goal
 
 pub returns-then-not-is_ready-clause-role : goal.returns-then-not-is_ready-clause-role

@@ -2,7 +2,7 @@ use Rattle.std.proofs.Common.{◌≡◌, ◌∙◌, sym, ap, List}
 use Rattle.law_quorum.specs.Batches.{Batch}
 use Rattle.kr_link.specs.Cores.{asked_in}
 use Rattle.kr_link.specs.Roles.{held_of}
-use Rattle.kr_link.proofs.Roles.{commit_out}
+use Rattle.kr_link.proofs.CoreSteps.{commit_out}
 use Rattle.kr_link.proofs.roles.Leading.commit.Goals as goal
 
 pub returns-clause-role : goal.returns-clause-role

@@ -2,7 +2,7 @@ use Rattle.std.proofs.Common.{◌≡◌, ◌∙◌, sym, ap, List}
 use Rattle.law_core.specs.Core.{Outcome}
 use Rattle.kr_link.specs.Outgoing.{put_all}
 use Rattle.kr_link.specs.Roles.{held_of}
-use Rattle.kr_link.proofs.Roles.{other_heard, own_out, own_role}
+use Rattle.kr_link.proofs.CoreSteps.{other_heard, own_out, own_role}
 use Rattle.kr_link.proofs.roles.Leading.hear.Goals as goal
 
 pub returns-then-not-is_own-clause-role : goal.returns-then-not-is_own-clause-role
