@@ -7,16 +7,16 @@ use Rattle.kr_link.proofs.waiting.fill.Goals as goal
 pub overflow_sub-room : goal.overflow_sub-room
 overflow_sub-room c =
     let first : Some c.in-Some.next ≡ fitted c.loop-most.room c.loop-most.waits.items = cc in
-    omega (arith, fits c.loop-most.room c.loop-most.waits.items c.in-Some.next first, c.size.ensures)
+    omega (arith, fits c.loop-most.room c.loop-most.waits.items c.in-Some.next first, c.size-room.ensures)
 
 pub loop-most-preserved : goal.loop-most-preserved
 loop-most-preserved c =
     let first : Some c.in-Some.next ≡ fitted c.loop-most.room c.loop-most.waits.items = cc in
     record {
-      group = next_group c.loop-most.most c.loop-most.room c.loop-most.waits.items c.loop-most.group c.loop-most-test.true _ _ c.in-Some.next c.size.result first
-          c.pop_fitting.ensures.rest c.in_ok-push.ensures.ok c.size.ensures ∙ c.loop-most.invariant.group;
-      rest = next_rest c.loop-most.most c.loop-most.room c.loop-most.waits.items c.loop-most.group c.loop-most-test.true _ c.in-Some.next c.size.result first
-          c.pop_fitting.ensures.rest c.size.ensures ∙ c.loop-most.invariant.rest;
+      group = next_group c.loop-most.most c.loop-most.room c.loop-most.waits.items c.loop-most.group c.loop-most-test.true _ _ c.in-Some.next c.size-room.result first
+          c.pop_fitting.ensures.rest c.in_ok-push-in-Some.ensures.ok c.size-room.ensures ∙ c.loop-most.invariant.group;
+      rest = next_rest c.loop-most.most c.loop-most.room c.loop-most.waits.items c.loop-most.group c.loop-most-test.true _ c.in-Some.next c.size-room.result first
+          c.pop_fitting.ensures.rest c.size-room.ensures ∙ c.loop-most.invariant.rest;
     }
 
 pub returns-in-None-clause-group : goal.returns-in-None-clause-group

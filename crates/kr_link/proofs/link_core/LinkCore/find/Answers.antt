@@ -12,8 +12,8 @@ pub returns-then-not-is_next-clause-out : goal.returns-then-not-is_next-clause-o
 returns-then-not-is_next-clause-out c = sym (ap (λ (o : Outcome). put_all c.args.out.now o.1) (found_other c.args.self.now.fed (role_of c.args.self.now.role) c.args.batch (sym c.is_next.ensures ∙ c.if-not-is_next.true)))
 
 pub returns-clause-core : goal.returns-clause-core
-returns-clause-core c = found_core c.args.self.now.fed c.end.result (role_of c.args.self.now.role) c.args.batch (sym c.is_next.ensures ∙ c.if-not-is_next.false) c.end.ensures _ c.in_ok-begin.ensures.role
+returns-clause-core c = found_core c.args.self.now.fed c.end-self.result (role_of c.args.self.now.role) c.args.batch (sym c.is_next.ensures ∙ c.if-not-is_next.false) c.end-self.ensures _ c.in_ok-begin.ensures.role
 
 pub returns-clause-out : goal.returns-clause-out
 returns-clause-out c =
-    found_out c.args.self.now.fed c.end.result (role_of c.args.self.now.role) c.args.batch (sym c.is_next.ensures ∙ c.if-not-is_next.false) c.end.ensures c.args.out.now _ _ c.in_ok-put.ensures c.in_ok-begin.ensures.out
+    found_out c.args.self.now.fed c.end-self.result (role_of c.args.self.now.role) c.args.batch (sym c.is_next.ensures ∙ c.if-not-is_next.false) c.end-self.ensures c.args.out.now _ _ c.in_ok-put.ensures c.in_ok-begin.ensures.out

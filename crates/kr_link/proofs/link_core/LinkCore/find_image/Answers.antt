@@ -12,8 +12,8 @@ pub returns-then-not-is_ahead-clause-out : goal.returns-then-not-is_ahead-clause
 returns-then-not-is_ahead-clause-out c = sym (ap (λ (o : Outcome). put_all c.args.out.now o.1) (image_other c.args.self.now.fed (role_of c.args.self.now.role) c.args.image (sym c.is_ahead.ensures ∙ c.if-not-is_ahead.true)))
 
 pub returns-clause-core : goal.returns-clause-core
-returns-clause-core c = image_core c.args.self.now.fed c.offset.result (role_of c.args.self.now.role) c.args.image (sym c.is_ahead.ensures ∙ c.if-not-is_ahead.false) c.offset.ensures _ c.in_ok-begin.ensures.role
+returns-clause-core c = image_core c.args.self.now.fed c.offset-self.result (role_of c.args.self.now.role) c.args.image (sym c.is_ahead.ensures ∙ c.if-not-is_ahead.false) c.offset-self.ensures _ c.in_ok-begin.ensures.role
 
 pub returns-clause-out : goal.returns-clause-out
 returns-clause-out c =
-    image_out c.args.self.now.fed c.offset.result (role_of c.args.self.now.role) c.args.image (sym c.is_ahead.ensures ∙ c.if-not-is_ahead.false) c.offset.ensures c.args.out.now _ _ c.in_ok-put.ensures c.in_ok-begin.ensures.out
+    image_out c.args.self.now.fed c.offset-self.result (role_of c.args.self.now.role) c.args.image (sym c.is_ahead.ensures ∙ c.if-not-is_ahead.false) c.offset-self.ensures c.args.out.now _ _ c.in_ok-put.ensures c.in_ok-begin.ensures.out
