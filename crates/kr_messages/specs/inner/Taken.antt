@@ -1,0 +1,33 @@
+-- Values that are taken off the front of bytes, and shown.
+use Rattle.std.specs.Prelude.{◌≡◌, ℕ, ◌&&◌, Bool, true, refl, false, List, [], ◌∷◌, ◌++◌, Result, Ok, Err, Unit, codes, if◌then◌else◌}
+use Rattle.kr_layout.specs.declared.fault.ReadFault.{ReadFault}
+use Rattle.kr_layout.specs.Answers.{IsFaultOf}
+use Rattle.kr_wire.specs.Reading.{Read}
+use Rattle.kr_wire.specs.Schema.{value_at}
+use Rattle.kr_messages.specs.Forms.{FieldForms, Form}
+
+-- the value at the front was taken, and its text appended
+pub record TookText {X : Type 0} (read : List ℕ → Read X) (json : X → List ℕ) (left left' before after : List ℕ) : Type 0 where
+  pub value : X
+  pub took : read left ≡ Ok (value, left')
+  pub wrote : after ≡ before ++ json value
+
+abbrev pub Transcribes : {X : Type 0} → (List ℕ → Read X) → (X → List ℕ) → Result (Unit {0}) ReadFault → List ℕ → List ℕ → List ℕ → List ℕ → Type 0
+Transcribes read json (Ok done) left left' before after = TookText read json left left' before after
+Transcribes read json (Err fault) left left' before after = IsFaultOf fault (read left)
+
+abbrev pub ShowsForm : Form → Result (Unit {0}) ReadFault → List ℕ → List ℕ → List ℕ → List ℕ → Type 0
+ShowsForm f = Transcribes (value_at f.schema) f.json
+
+abbrev pub ShowsFields : FieldForms → Bool → Result (Unit {0}) ReadFault → List ℕ → List ℕ → List ℕ → List ℕ → Type 0
+ShowsFields f is_first = Transcribes (value_at f.schema) (f.json is_first)
+
+abbrev pub comma : Bool → List ℕ
+comma is_further = if is_further then codes "," else []
+
+abbrev pub is_some : {X : Type 0} → List X → Bool
+is_some [] = false
+is_some (x ∷ xs) = true
+
+pub both : {a b : Bool} → a ≡ true → b ≡ true → (a && b) ≡ true
+both {a} {b} first second = rw (first, second) refl

@@ -1,0 +1,96 @@
+//! Replies as JSON.
+
+ghost use Rattle.std.specs.Prelude.{◌≡◌};
+ghost use Rattle.kr_messages.specs.Forms as forms;
+ghost use Rattle.kr_messages.specs.Shown.{ShowsMessage, ShowsReply};
+
+use crate::names::CorrelationId;
+use crate::object::{End, Member, Object};
+use crate::responses::{
+    AlterPartitionReassignmentsResponse, AlterPartitionResponse, BrokerHeartbeatResponse,
+    BrokerRegistrationResponse, CreatePartitionsResponse, CreateTopicsResponse,
+    DeleteTopicsResponse, ElectLeadersResponse, IncrementalAlterConfigsResponse,
+    ListPartitionReassignmentsResponse, MetadataResponse, UnregisterBrokerResponse,
+};
+use crate::shape::{Int32, Shape};
+use crate::{MessageFault, Mine};
+use kr_defs::Bytes;
+use kr_json::put_str;
+use kr_layout::{ReadFault, Reader};
+use kr_req::ApiKey;
+use std::alloc::Global;
+use std::marker::PhantomData;
+
+type ResponseHeader = Object<Member<CorrelationId, Int32, End>>;
+
+/// A reply's message: its header, and its body.
+struct Reply<B>(PhantomData<B>);
+
+impl<B: Shape> Shape for Reply<B> {
+    ghost form = { forms.reply_form B.form };
+
+    ghost is_whole = { B.is_whole };
+
+    #[tactic(auto, using(crate::proofs::Showing::reply_taken, crate::proofs::Showing::no_header, crate::proofs::Showing::no_body))]
+    fn show(
+        alloc: Global,
+        from: &mut Reader<'_, Mine>,
+        out: &mut Vec<u8>,
+    ) -> Result<(), ReadFault> {
+        put_str(out, "{\"responseHeader\":")?;
+        ResponseHeader::show(alloc, from, out)?;
+        put_str(out, ",\"response\":")?;
+        B::show(alloc, from, out)?;
+        put_str(out, "}")?;
+        Ok(())
+    }
+}
+
+// The text of the message that all of the bytes are.
+#[tactic(auto, using(crate::proofs::Whole::shown, crate::proofs::Whole::trailing, crate::proofs::Whole::unread))]
+fn show_message<T: Shape>(alloc: Global, bytes: &[u8]) -> Result<Bytes, MessageFault>
+    ensures { ShowsMessage T.form bytes.now result }
+{
+    let mut from: Reader<'_, Mine> = Reader::new(alloc, bytes, 0);
+    let mut out = Vec::new(alloc);
+    match T::show(alloc, &mut from, &mut out) {
+        Ok(()) => {
+            if from.is_empty() {
+                return Ok(Bytes::from_vec(out));
+            }
+            Err(MessageFault::BadMessage)
+        }
+        Err(ReadFault::Wire(_)) => Err(MessageFault::BadMessage),
+        Err(ReadFault::NoMemory) => Err(MessageFault::NoMemory),
+    }
+}
+
+/// The JSON of the reply to a request of this key that all of the bytes are, a message without its size: an object with the members
+/// `responseHeader` and `response`, each as Kafka's JSON converters write it. Bytes that stand for no reply of that key, of the
+/// version that is served, are refused.
+pub fn reply_json(alloc: Global, api: ApiKey, bytes: &[u8]) -> Result<Bytes, MessageFault>
+    ensures { ShowsReply api bytes.now result }
+{
+    match api {
+        ApiKey::BrokerRegistration => show_message::<Reply<BrokerRegistrationResponse>>(
+            alloc, bytes,
+        ),
+        ApiKey::BrokerHeartbeat => show_message::<Reply<BrokerHeartbeatResponse>>(alloc, bytes),
+        ApiKey::UnregisterBroker => show_message::<Reply<UnregisterBrokerResponse>>(alloc, bytes),
+        ApiKey::CreateTopics => show_message::<Reply<CreateTopicsResponse>>(alloc, bytes),
+        ApiKey::DeleteTopics => show_message::<Reply<DeleteTopicsResponse>>(alloc, bytes),
+        ApiKey::CreatePartitions => show_message::<Reply<CreatePartitionsResponse>>(alloc, bytes),
+        ApiKey::AlterPartition => show_message::<Reply<AlterPartitionResponse>>(alloc, bytes),
+        ApiKey::ElectLeaders => show_message::<Reply<ElectLeadersResponse>>(alloc, bytes),
+        ApiKey::AlterPartitionReassignments => show_message::<
+            Reply<AlterPartitionReassignmentsResponse>,
+        >(alloc, bytes),
+        ApiKey::ListPartitionReassignments => show_message::<
+            Reply<ListPartitionReassignmentsResponse>,
+        >(alloc, bytes),
+        ApiKey::IncrementalAlterConfigs => show_message::<Reply<IncrementalAlterConfigsResponse>>(
+            alloc, bytes,
+        ),
+        ApiKey::Metadata => show_message::<Reply<MetadataResponse>>(alloc, bytes),
+    }
+}
