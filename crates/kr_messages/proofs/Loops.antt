@@ -38,19 +38,25 @@ module _ {X : Type 0} (one : List ℕ → Read X) (json : X → List ℕ) where
   some_more [] x = refl
   some_more (y ∷ ys) x = refl
 
+  one_behind : (front : List X) (x : X) (is_further : Bool) (before out between after : List ℕ) → out ≡ before ++ elements json front → is_further ≡ is_some front
+      → between ≡ out ++ comma is_further → after ≡ between ++ json x → after ≡ before ++ elements json (front ++ x ∷ [])
+  one_behind front x is_further before out between after so_far further parted shown =
+      let text = elements json front in
+      let more = comma is_further ++ json x in
+      two out between after (comma is_further) (json x) parted shown
+      ∙ (ap (λ (l : List ℕ). l ++ more) so_far
+      ∙ (append_assoc before text more
+      ∙ (ap (λ (b : Bool). before ++ (text ++ (comma b ++ json x))) further
+      ∙ ap (λ (l : List ℕ). before ++ l) (sym (shown_more front x)))))
+
   module _ (count i : ℕ) (is_further : Bool) (left mid before out : List ℕ) (so_far : TakesSome one json count i is_further left mid before out) where
     pub one_more : (left' between after : List ℕ) → i < count → between ≡ out ++ comma is_further → TookText one json mid left' between after → TakesSome one json count (i + 1) true left left' before after
-    one_more left' between after lt parted shown =
-        let x = shown.value in
-        let texts = two out between after (comma is_further) (json x) parted shown.wrote in
-        let behind : out ++ (comma is_further ++ json x) ≡ before ++ elements json (so_far.front ++ x ∷ []) =
-        rw (so_far.wrote, so_far.further) (append_assoc before (elements json so_far.front) (comma (is_some so_far.front) ++ json x) ∙ ap (λ (l : List ℕ). before ++ l) (sym (shown_more so_far.front x))) in
-        record {
-          front = so_far.front ++ x ∷ [];
-          took = goes_on one so_far.front count i mid (elements_at one count left) so_far.took x left' lt shown.took;
-          wrote = texts ∙ behind;
-          further = some_more so_far.front x;
-        }
+    one_more left' between after lt parted shown = record {
+      front = so_far.front ++ shown.value ∷ [];
+      took = goes_on one so_far.front count i mid (elements_at one count left) so_far.took shown.value left' lt shown.took;
+      wrote = one_behind so_far.front shown.value is_further before out between after so_far.wrote so_far.further parted shown.wrote;
+      further = some_more so_far.front shown.value;
+    }
 
     pub all_shown : count ≤ i → TookText (elements_at one count) (elements json) left mid before out
     all_shown le = record {

@@ -10,7 +10,7 @@ use Rattle.kr_layout.specs.Answers.{IsFaultOf}
 use Rattle.kr_wire.specs.Reading.{Read, count_at, count_or_null_at, elements_at, list_at, list_or_null_at}
 use Rattle.kr_wire.specs.Schema.{value_at}
 use Rattle.kr_wire.specs.Schema as schemas
-use Rattle.kr_messages.specs.Forms.{Field, FieldForms, Form, ◌▹◌, array_form, array_text, no_field, name_text, nullable_array_form, object_form, reply_form, response_header_form}
+use Rattle.kr_messages.specs.Forms.{Field, FieldForms, Form, ◌▹◌, array_form, array_text, no_field, name_text, nullable_array_form, object_form, response_message_form}
 use Rattle.kr_messages.specs.inner.Taken.{ShowsForm, ShowsFields, Transcribes}
 
 pub taken : {X : Type 0} (read : List ℕ → Read X) (json : X → List ℕ) (x : X) (left left' before after : List ℕ) → read left ≡ Ok (x, left') → after ≡ before ++ json x → Transcribes read json (Ok tt) left left' before after
@@ -85,25 +85,24 @@ module _ (f : Form) where
   no_count_or_null reads.NoMemory left refused = tt
   no_count_or_null (reads.Wire fault) left refused = rw refused refl
 
--- ---- replies
+-- ---- messages
 
-module _ (body : Form) (left mid : List ℕ) where
-  pub reply_taken : (left' before began a b c after : List ℕ) → began ≡ before ++ codes "{\"responseHeader\":" → ShowsForm response_header_form (Ok tt) left mid began a
-      → b ≡ a ++ codes ",\"response\":" → ShowsForm body (Ok tt) mid left' b c → after ≡ c ++ codes "}" → ShowsForm (reply_form body) (Ok tt) left left' before after
-  reply_taken left' before began a b c after opened header between shown closed =
-      let header_text = response_header_form.json header.value in
-      let rest = codes ",\"response\":" ++ (body.json shown.value ++ codes "}") in
+module _ (header body : Form) (left mid : List ℕ) where
+  pub message_taken : (left' before began a b c after : List ℕ) → began ≡ before ++ codes "{\"responseHeader\":" → ShowsForm header (Ok tt) left mid began a
+      → b ≡ a ++ codes ",\"response\":" → ShowsForm body (Ok tt) mid left' b c → after ≡ c ++ codes "}" → ShowsForm (response_message_form header body) (Ok tt) left left' before after
+  message_taken left' before began a b c after opened first between second closed =
+      let rest = codes ",\"response\":" ++ (body.json second.value ++ codes "}") in
       record {
-        value = (header.value, shown.value);
-        took = rw (header.took, shown.took) refl;
-        wrote = three before began a after (codes "{\"responseHeader\":") header_text rest opened header.wrote
-            (three a b c after (codes ",\"response\":") (body.json shown.value) (codes "}") between shown.wrote closed);
+        value = (first.value, second.value);
+        took = rw (first.took, second.took) refl;
+        wrote = three before began a after (codes "{\"responseHeader\":") (header.json first.value) rest opened first.wrote
+            (three a b c after (codes ",\"response\":") (body.json second.value) (codes "}") between second.wrote closed);
       }
 
-  pub no_header : (fault : ReadFault) → IsFaultOf fault (value_at response_header_form.schema left) → IsFaultOf fault (value_at (reply_form body).schema left)
+  pub no_header : (fault : ReadFault) → IsFaultOf fault (value_at header.schema left) → IsFaultOf fault (value_at (response_message_form header body).schema left)
   no_header reads.NoMemory refused = tt
   no_header (reads.Wire fault) refused = rw refused refl
 
-  pub no_body : (fault : ReadFault) (began a : List ℕ) → ShowsForm response_header_form (Ok tt) left mid began a → IsFaultOf fault (value_at body.schema mid) → IsFaultOf fault (value_at (reply_form body).schema left)
-  no_body reads.NoMemory began a header refused = tt
-  no_body (reads.Wire fault) began a header refused = rw (header.took, refused) refl
+  pub no_body : (fault : ReadFault) (began a : List ℕ) → ShowsForm header (Ok tt) left mid began a → IsFaultOf fault (value_at body.schema mid) → IsFaultOf fault (value_at (response_message_form header body).schema left)
+  no_body reads.NoMemory began a first refused = tt
+  no_body (reads.Wire fault) began a first refused = rw (first.took, refused) refl

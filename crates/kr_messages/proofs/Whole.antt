@@ -1,36 +1,41 @@
 -- What all of some bytes are.
-use Rattle.std.proofs.Common.{◌≡◌, ◌∙◌, ℕ, true, false, List, [], ◌∷◌, Result, Ok, Err, refl, sym, ap, subst}
+use Rattle.std.proofs.Common.{◌≡◌, ℕ, true, false, List, [], ◌∷◌, Result, Ok, Err, refl}
 use Rattle.std.specs.Prelude.{◌==◌, length}
-use Rattle.kr_layout.specs.declared.fault.ReadFault.{ReadFault}
-use Rattle.kr_layout.specs.declared.fault.ReadFault.TheVariants as reads
-use Rattle.kr_layout.specs.Answers.{IsFaultOf}
+use Rattle.kr_layout.specs.declared.fault.BodyFault.{BodyFault}
+use Rattle.kr_layout.specs.declared.fault.BodyFault.TheVariants as bodies
+use Rattle.kr_layout.specs.Answers.{whole}
+use Rattle.kr_layout.proofs.Bodies.{answers}
 use Rattle.kr_wire.specs.declared.WireFault.{WireFault}
-use Rattle.kr_wire.proofs.ReadingLaws.{IsBytes, whole_complete, whole_sound}
-use Rattle.kr_wire.proofs.Schemas.{law}
+use Rattle.kr_wire.specs.Laws.{IsBytes}
 use Rattle.kr_wire.specs.Schema.{Is, is_readable, value_at}
+use Rattle.kr_messages.specs.declared.fault.MessageFault.{MessageFault}
+use Rattle.kr_messages.specs.declared.fault.MessageFault.TheVariants as faults
 use Rattle.kr_messages.specs.Forms.{Form}
-use Rattle.kr_messages.specs.Shown.{ShowsText}
-use Rattle.kr_messages.specs.inner.Taken.{ShowsForm}
+use Rattle.kr_messages.specs.Shown.{ShowsMessage}
+use Rattle.kr_messages.specs.inner.Taken.{IsUnread, ShowsForm, ShowsWhole}
 
-none_left : (left : List ℕ) → (length left == 0) ≡ true → left ≡ []
-none_left [] empty = refl
-none_left (x ∷ xs) empty = absurd cc
+module _ (f : Form) (bytes : List ℕ) where
+  pub whole_taken : (left out : List ℕ) → ShowsForm f (Ok tt) bytes left [] out → (length left == 0) ≡ true → ShowsWhole f bytes (Ok out)
+  unfolding whole
+  whole_taken [] out t none = record { value = t.value; is = rw t.took refl; text = t.wrote }
+  whole_taken (x ∷ xs) out t none = absurd cc
 
-module _ (f : Form) (whole : is_readable f.schema ≡ true) (bytes : List ℕ) where
-  pub shown : IsBytes bytes → (left after : List ℕ) → ShowsForm f (Ok tt) bytes left [] after → (length left == 0) ≡ true → ShowsText f bytes after
-  shown fits left after t empty =
-      let took : value_at f.schema bytes ≡ Ok (t.value, []) = subst (λ (l : List ℕ). value_at f.schema bytes ≡ Ok (t.value, l)) (none_left left empty) t.took in
-      record { value = t.value; stands = whole_sound (law f.schema whole) bytes t.value fits took; text = t.wrote }
+  pub rest_left : (left out : List ℕ) → ShowsForm f (Ok tt) bytes left [] out → (length left == 0) ≡ false → ShowsWhole f bytes (Err faults.BadMessage)
+  unfolding whole
+  rest_left [] out t some = absurd cc
+  rest_left (x ∷ xs) out t some = rw t.took tt
 
-  pub trailing : (left after : List ℕ) → ShowsForm f (Ok tt) bytes left [] after → (length left == 0) ≡ false → (value : f.Value) → Is f.schema value bytes → ⊥
-  trailing [] after t some value is = absurd cc
-  trailing (x ∷ xs) after t some value is =
-      let all = whole_complete (law f.schema whole) bytes value is in
-      let clash = sym t.took ∙ all in
-      absurd cc
+  pub unread : (fault : WireFault) → value_at f.schema bytes ≡ Err fault → ShowsWhole f bytes (Err faults.BadMessage)
+  unfolding whole
+  unread fault refused = rw refused tt
 
-  pub unread : (fault : WireFault) → value_at f.schema bytes ≡ Err fault → (value : f.Value) → Is f.schema value bytes → ⊥
-  unread fault refused value is =
-      let all = whole_complete (law f.schema whole) bytes value is in
-      let clash = sym refused ∙ all in
-      absurd cc
+  none_stands : is_readable f.schema ≡ true → IsBytes bytes → (read : Result f.Value BodyFault) → whole f.schema bytes ≡ read → IsUnread read → (value : f.Value) → Is f.schema value bytes → ⊥
+  none_stands readable fits (Ok x) e none value is = none
+  none_stands readable fits (Err bodies.NoMemory) e none value is = none
+  none_stands readable fits (Err (bodies.Wire fault)) e none value is = let clash = (answers f.schema readable bytes fits (Err (bodies.Wire fault)) e).found value is in cc
+  none_stands readable fits (Err bodies.Trailing) e none value is = let clash = (answers f.schema readable bytes fits (Err bodies.Trailing) e).found value is in cc
+
+  pub message_shown : is_readable f.schema ≡ true → IsBytes bytes → (result : Result (List ℕ) MessageFault) → ShowsWhole f bytes result → ShowsMessage f bytes result
+  message_shown readable fits (Ok text) w = record { value = w.value; stands = (answers f.schema readable bytes fits (Ok w.value) w.is).stands; text = w.text }
+  message_shown readable fits (Err faults.BadMessage) w = none_stands readable fits (whole f.schema bytes) refl w
+  message_shown readable fits (Err faults.NoMemory) w = tt

@@ -1,9 +1,9 @@
 -- The parts of messages: how each stands in bytes, by the types of Kafka's protocol, and how it is shown, as Kafka's JSON converters
 -- of the message schemas write it (RFC 8259).
-use Rattle.std.specs.Prelude.{ℕ, ℤ, Bool, true, false, List, [], ◌++◌, Option, Some, None, Unit, codes, if◌then◌else◌}
+use Rattle.std.specs.Prelude.{ℕ, Bool, true, false, List, [], ◌++◌, Option, Some, None, Unit, codes, if◌then◌else◌}
 use Rattle.std.specs.Fmt.{signed_decimal}
 use Rattle.kr_json.specs.JsonText as texts
-use Rattle.kr_wire.specs.Schema.{Schema}
+use Rattle.kr_wire.specs.Schema.{Schema, ◌▸◌}
 use Rattle.kr_wire.specs.Schema as schemas
 
 -- the layout of a part's values, and the text of each
@@ -64,7 +64,7 @@ pub record FieldForms : Type 1 where
 
 -- a field's name and what stands before its value
 abbrev pub name_text : Bool → List ℕ → List ℕ
-name_text is_first name = codes (if is_first then "\"" else ",\"") ++ (name ++ codes "\":")
+name_text is_first name = (if is_first then codes "\"" else codes ",\"") ++ (name ++ codes "\":")
 
 pub record Field : Type 1 where
   pub name : List ℕ
@@ -79,7 +79,7 @@ infixr 6 ◌▹◌
 abbrev pub ◌▹◌ : Field → FieldForms → FieldForms
 f ▹ others = record {
   Value = f.form.Value × others.Value;
-  schema = schemas.◌▸◌ f.form.schema others.schema;
+  schema = f.form.schema ▸ others.schema;
   json = λ is_first v. name_text is_first f.name ++ (f.form.json v.0 ++ others.json false v.1);
 }
 
@@ -92,13 +92,17 @@ object_form fields = record { Value = fields.Value; schema = fields.schema; json
 
 -- ---- replies
 
+-- a header and a body behind it
+abbrev pub response_message_form : Form → Form → Form
+response_message_form header body = record {
+  Value = header.Value × body.Value;
+  schema = header.schema ▸ body.schema;
+  json = λ v. codes "{\"responseHeader\":" ++ (header.json v.0 ++ (codes ",\"response\":" ++ (body.json v.1 ++ codes "}")));
+}
+
+-- Kafka's response header, version 1
 abbrev pub response_header_form : Form
 response_header_form = object_form (codes "correlationId" ∶ int32_form ▹ no_field)
 
--- a reply's message: Kafka's response header version 1, and the body
 abbrev pub reply_form : Form → Form
-reply_form body = record {
-  Value = response_header_form.Value × body.Value;
-  schema = schemas.◌▸◌ response_header_form.schema body.schema;
-  json = λ v. codes "{\"responseHeader\":" ++ (response_header_form.json v.0 ++ (codes ",\"response\":" ++ (body.json v.1 ++ codes "}")));
-}
+reply_form body = response_message_form response_header_form body

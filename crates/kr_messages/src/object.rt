@@ -4,7 +4,7 @@ ghost use Rattle.std.specs.Prelude.{◌≡◌, ◌++◌, ℕ, List, true, refl, 
 ghost use Rattle.kr_wire.specs.Schema.{is_readable};
 ghost use Rattle.kr_messages.specs.Forms as forms;
 ghost use Rattle.kr_messages.specs.Forms.{◌∶◌, ◌▹◌};
-ghost use Rattle.kr_messages.specs.inner.Taken.{ShowsFields};
+ghost use Rattle.kr_messages.specs.inner.Taken.{ShowsFields, both};
 
 use crate::Mine;
 use crate::shape::Shape;
@@ -73,7 +73,7 @@ fn put_name<N: Name>(is_first: bool, out: &mut Vec<u8>) -> Result<(), AllocError
 impl<N: Name, T: Shape, R: Fields> Fields for Member<N, T, R> {
     ghost fields = { N.name ∶ T.form ▹ R.fields };
 
-    ghost is_whole = { Rattle.kr_messages.specs.inner.Taken.both T.is_whole R.is_whole };
+    ghost is_whole = { both T.is_whole R.is_whole };
 
     #[tactic(auto, using(crate::proofs::Showing::field_taken, crate::proofs::Showing::field_refused))]
     fn show(

@@ -3,6 +3,7 @@
 ghost use Rattle.std.specs.Prelude.{◌≡◌};
 ghost use Rattle.kr_messages.specs.Forms as forms;
 ghost use Rattle.kr_messages.specs.Shown.{ShowsMessage, ShowsReply};
+ghost use Rattle.kr_messages.specs.inner.Taken.{ShowsWhole, both};
 
 use crate::names::CorrelationId;
 use crate::object::{End, Member, Object};
@@ -23,22 +24,22 @@ use std::marker::PhantomData;
 
 type ResponseHeader = Object<Member<CorrelationId, Int32, End>>;
 
-/// A reply's message: its header, and its body.
-struct Reply<B>(PhantomData<B>);
+/// A reply's message: a header, and a body behind it.
+struct ResponseMessage<H, B>(PhantomData<(H, B)>);
 
-impl<B: Shape> Shape for Reply<B> {
-    ghost form = { forms.reply_form B.form };
+impl<H: Shape, B: Shape> Shape for ResponseMessage<H, B> {
+    ghost form = { forms.response_message_form H.form B.form };
 
-    ghost is_whole = { B.is_whole };
+    ghost is_whole = { both H.is_whole B.is_whole };
 
-    #[tactic(auto, using(crate::proofs::Showing::reply_taken, crate::proofs::Showing::no_header, crate::proofs::Showing::no_body))]
+    #[tactic(auto, using(crate::proofs::Showing::message_taken, crate::proofs::Showing::no_header, crate::proofs::Showing::no_body))]
     fn show(
         alloc: Global,
         from: &mut Reader<'_, Mine>,
         out: &mut Vec<u8>,
     ) -> Result<(), ReadFault> {
         put_str(out, "{\"responseHeader\":")?;
-        ResponseHeader::show(alloc, from, out)?;
+        H::show(alloc, from, out)?;
         put_str(out, ",\"response\":")?;
         B::show(alloc, from, out)?;
         put_str(out, "}")?;
@@ -46,10 +47,11 @@ impl<B: Shape> Shape for Reply<B> {
     }
 }
 
-// The text of the message that all of the bytes are.
-#[tactic(auto, using(crate::proofs::Whole::shown, crate::proofs::Whole::trailing, crate::proofs::Whole::unread))]
-fn show_message<T: Shape>(alloc: Global, bytes: &[u8]) -> Result<Bytes, MessageFault>
-    ensures { ShowsMessage T.form bytes.now result }
+type Reply<B> = ResponseMessage<ResponseHeader, B>;
+
+#[tactic(auto, using(crate::proofs::Whole::whole_taken, crate::proofs::Whole::rest_left, crate::proofs::Whole::unread))]
+fn show_whole<T: Shape>(alloc: Global, bytes: &[u8]) -> Result<Bytes, MessageFault>
+    ensures { ShowsWhole T.form bytes.now result }
 {
     let mut from: Reader<'_, Mine> = Reader::new(alloc, bytes, 0);
     let mut out = Vec::new(alloc);
@@ -63,6 +65,13 @@ fn show_message<T: Shape>(alloc: Global, bytes: &[u8]) -> Result<Bytes, MessageF
         Err(ReadFault::Wire(_)) => Err(MessageFault::BadMessage),
         Err(ReadFault::NoMemory) => Err(MessageFault::NoMemory),
     }
+}
+
+// The text of the message that all of the bytes are.
+fn show_message<T: Shape>(alloc: Global, bytes: &[u8]) -> Result<Bytes, MessageFault>
+    ensures { ShowsMessage T.form bytes.now result }
+{
+    show_whole::<T>(alloc, bytes)
 }
 
 /// The JSON of the reply to a request of this key that all of the bytes are, a message without its size: an object with the members

@@ -1,9 +1,13 @@
 -- Values that are taken off the front of bytes, and shown.
 use Rattle.std.specs.Prelude.{◌≡◌, ℕ, ◌&&◌, Bool, true, refl, false, List, [], ◌∷◌, ◌++◌, Result, Ok, Err, Unit, codes, if◌then◌else◌}
 use Rattle.kr_layout.specs.declared.fault.ReadFault.{ReadFault}
-use Rattle.kr_layout.specs.Answers.{IsFaultOf}
+use Rattle.kr_layout.specs.declared.fault.BodyFault.{BodyFault}
+use Rattle.kr_layout.specs.declared.fault.BodyFault.TheVariants as bodies
+use Rattle.kr_layout.specs.Answers.{IsFaultOf, whole}
 use Rattle.kr_wire.specs.Reading.{Read}
 use Rattle.kr_wire.specs.Schema.{value_at}
+use Rattle.kr_messages.specs.declared.fault.MessageFault.{MessageFault}
+use Rattle.kr_messages.specs.declared.fault.MessageFault.TheVariants as faults
 use Rattle.kr_messages.specs.Forms.{FieldForms, Form}
 
 -- the value at the front was taken, and its text appended
@@ -21,6 +25,27 @@ ShowsForm f = Transcribes (value_at f.schema) f.json
 
 abbrev pub ShowsFields : FieldForms → Bool → Result (Unit {0}) ReadFault → List ℕ → List ℕ → List ℕ → List ℕ → Type 0
 ShowsFields f is_first = Transcribes (value_at f.schema) (f.json is_first)
+
+-- ---- all of some bytes
+
+-- a fault of the bytes themselves
+abbrev pub IsUnread : {X : Type 0} → Result X BodyFault → Type 0
+IsUnread (Ok x) = ⊥
+IsUnread (Err bodies.NoMemory) = ⊥
+IsUnread (Err other) = Unit {0}
+
+-- the text of the value that all of the bytes give
+pub record ReadsText (f : Form) (bytes out : List ℕ) : Type 0 where
+  pub value : f.Value
+  pub is : whole f.schema bytes ≡ Ok value
+  pub text : out ≡ f.json value
+
+abbrev pub ShowsWhole : Form → List ℕ → Result (List ℕ) MessageFault → Type 0
+ShowsWhole f bytes (Ok out) = ReadsText f bytes out
+ShowsWhole f bytes (Err faults.BadMessage) = IsUnread (whole f.schema bytes)
+ShowsWhole f bytes (Err faults.NoMemory) = Unit {0}
+
+-- ---- steps
 
 abbrev pub comma : Bool → List ℕ
 comma is_further = if is_further then codes "," else []
