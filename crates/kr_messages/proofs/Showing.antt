@@ -10,7 +10,7 @@ use Rattle.kr_layout.specs.Answers.{IsFaultOf}
 use Rattle.kr_wire.specs.Reading.{Read, count_at, count_or_null_at, elements_at, list_at, list_or_null_at}
 use Rattle.kr_wire.specs.Schema.{value_at}
 use Rattle.kr_wire.specs.Schema as schemas
-use Rattle.kr_messages.specs.Forms.{Field, FieldForms, Form, ◌▹◌, array_form, array_text, no_field, name_text, nullable_array_form, object_form, response_message_form}
+use Rattle.kr_messages.specs.Forms.{Field, FieldForms, Form, ◌▹◌, alone_form, array_form, array_text, no_field, name_text, nullable_array_form, object_form, response_message_form}
 use Rattle.kr_messages.specs.inner.Taken.{ShowsForm, ShowsFields, Transcribes}
 
 pub taken : {X : Type 0} (read : List ℕ → Read X) (json : X → List ℕ) (x : X) (left left' before after : List ℕ) → read left ≡ Ok (x, left') → after ≡ before ++ json x → Transcribes read json (Ok tt) left left' before after
@@ -84,6 +84,10 @@ module _ (f : Form) where
   unfolding list_or_null_at
   no_count_or_null reads.NoMemory left refused = tt
   no_count_or_null (reads.Wire fault) left refused = rw refused refl
+
+pub alone_taken : (f : Form) (left left' before began late after : List ℕ) → began ≡ before ++ codes "{\"errorCode\":" → ShowsForm f (Ok tt) left left' began late → after ≡ late ++ codes "}" → ShowsForm (alone_form f) (Ok tt) left left' before after
+alone_taken f left left' before began late after opened shown closed =
+    wrapped (value_at f.schema) f.json (codes "{\"errorCode\":") (codes "}") left left' before began late after opened shown closed
 
 -- ---- messages
 

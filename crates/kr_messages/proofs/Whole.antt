@@ -1,5 +1,5 @@
 -- What all of some bytes are.
-use Rattle.std.proofs.Common.{◌≡◌, ℕ, true, false, List, [], ◌∷◌, Result, Ok, Err, refl}
+use Rattle.std.proofs.Common.{◌≡◌, inl, inr, ℕ, true, false, List, [], ◌∷◌, Result, Ok, Err, refl}
 use Rattle.std.specs.Prelude.{◌==◌, length}
 use Rattle.kr_layout.specs.declared.fault.BodyFault.{BodyFault}
 use Rattle.kr_layout.specs.declared.fault.BodyFault.TheVariants as bodies
@@ -11,8 +11,10 @@ use Rattle.kr_wire.specs.Schema.{Is, is_readable, value_at}
 use Rattle.kr_messages.specs.declared.fault.MessageFault.{MessageFault}
 use Rattle.kr_messages.specs.declared.fault.MessageFault.TheVariants as faults
 use Rattle.kr_messages.specs.Forms.{Form}
-use Rattle.kr_messages.specs.Shown.{ShowsMessage}
-use Rattle.kr_messages.specs.inner.Taken.{IsUnread, ShowsForm, ShowsWhole}
+use Rattle.kr_messages.specs.Forms.{bare_form, reply_form}
+use Rattle.kr_messages.specs.Shown.{ShowsReply, ShowsText, StandForNone, response_form}
+use Rattle.kr_messages.specs.inner.Taken.{IsUnread, ShowsForm, ShowsMessage, ShowsWhole}
+use Rattle.kr_req.specs.declared.api.ApiKey.{ApiKey}
 
 module _ (f : Form) (bytes : List ℕ) where
   pub whole_taken : (left out : List ℕ) → ShowsForm f (Ok tt) bytes left [] out → (length left == 0) ≡ true → ShowsWhole f bytes (Ok out)
@@ -39,3 +41,12 @@ module _ (f : Form) (bytes : List ℕ) where
   message_shown readable fits (Ok text) w = record { value = w.value; stands = (answers f.schema readable bytes fits (Ok w.value) w.is).stands; text = w.text }
   message_shown readable fits (Err faults.BadMessage) w = none_stands readable fits (whole f.schema bytes) refl w
   message_shown readable fits (Err faults.NoMemory) w = tt
+
+module _ (api : ApiKey) (bytes : List ℕ) where
+  pub reply_shown : (text : List ℕ) → ShowsText (reply_form (response_form api)) bytes text → ShowsReply api bytes (Ok text)
+  reply_shown text shown = inl shown
+
+  pub or_bare : StandForNone (reply_form (response_form api)) bytes → (result : Result (List ℕ) MessageFault) → ShowsMessage (reply_form bare_form) bytes result → ShowsReply api bytes result
+  or_bare none (Ok text) shown = inr shown
+  or_bare none (Err faults.BadMessage) shown = (none, shown)
+  or_bare none (Err faults.NoMemory) shown = tt

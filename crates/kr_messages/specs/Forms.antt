@@ -106,3 +106,10 @@ response_header_form = object_form (codes "correlationId" ∶ int32_form ▹ no_
 
 abbrev pub reply_form : Form → Form
 reply_form body = response_message_form response_header_form body
+
+-- an error alone, which answers a message that is no call
+abbrev pub alone_form : Form → Form
+alone_form f = record { Value = f.Value; schema = f.schema; json = λ v. codes "{\"errorCode\":" ++ (f.json v ++ codes "}") }
+
+abbrev pub bare_form : Form
+bare_form = alone_form int16_form

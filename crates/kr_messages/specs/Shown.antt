@@ -1,11 +1,11 @@
 -- What is shown of a message.
-use Rattle.std.specs.Prelude.{◌≡◌, ℕ, List, [], Result, Ok, Err, Unit}
+use Rattle.std.specs.Prelude.{◌≡◌, ◌⊎◌, ℕ, List, Result, Ok, Err, Unit}
 use Rattle.kr_wire.specs.Schema.{Is}
 use Rattle.kr_req.specs.declared.api.ApiKey.{ApiKey}
 use Rattle.kr_req.specs.declared.api.ApiKey.TheVariants as apis
 use Rattle.kr_messages.specs.declared.fault.MessageFault.{MessageFault}
 use Rattle.kr_messages.specs.declared.fault.MessageFault.TheVariants as faults
-use Rattle.kr_messages.specs.Forms.{Form, reply_form}
+use Rattle.kr_messages.specs.Forms.{Form, bare_form, reply_form}
 use Rattle.kr_messages.specs.Responses as responses
 
 -- the text of the value that the bytes stand for
@@ -14,11 +14,8 @@ pub record ShowsText (f : Form) (bytes text : List ℕ) : Type 0 where
   pub stands : Is f.schema value bytes
   pub text : text ≡ f.json value
 
--- The text, or that the bytes stand for no value. Want of memory is free.
-abbrev pub ShowsMessage : Form → List ℕ → Result (List ℕ) MessageFault → Type 0
-ShowsMessage f bytes (Ok text) = ShowsText f bytes text
-ShowsMessage f bytes (Err faults.BadMessage) = (value : f.Value) → Is f.schema value bytes → ⊥
-ShowsMessage f bytes (Err faults.NoMemory) = Unit {0}
+abbrev pub StandForNone : Form → List ℕ → Type 0
+StandForNone f bytes = (value : f.Value) → Is f.schema value bytes → ⊥
 
 -- the body of the reply to a request of this key, of the version that is served
 abbrev pub response_form : ApiKey → Form
@@ -35,5 +32,8 @@ response_form apis.ListPartitionReassignments = responses.list_partition_reassig
 response_form apis.IncrementalAlterConfigs = responses.incremental_alter_configs_response_form
 response_form apis.Metadata = responses.metadata_response_form
 
+-- The text of the reply, or of an error alone; or the bytes are neither. Want of memory is free.
 abbrev pub ShowsReply : ApiKey → List ℕ → Result (List ℕ) MessageFault → Type 0
-ShowsReply api = ShowsMessage (reply_form (response_form api))
+ShowsReply api bytes (Ok text) = ShowsText (reply_form (response_form api)) bytes text ⊎ ShowsText (reply_form bare_form) bytes text
+ShowsReply api bytes (Err faults.BadMessage) = StandForNone (reply_form (response_form api)) bytes × StandForNone (reply_form bare_form) bytes
+ShowsReply api bytes (Err faults.NoMemory) = Unit {0}

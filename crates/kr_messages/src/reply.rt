@@ -2,8 +2,9 @@
 
 ghost use Rattle.std.specs.Prelude.{◌≡◌};
 ghost use Rattle.kr_messages.specs.Forms as forms;
-ghost use Rattle.kr_messages.specs.Shown.{ShowsMessage, ShowsReply};
-ghost use Rattle.kr_messages.specs.inner.Taken.{ShowsWhole, both};
+ghost use Rattle.kr_messages.specs.Forms.{reply_form};
+ghost use Rattle.kr_messages.specs.Shown.{ShowsReply, response_form};
+ghost use Rattle.kr_messages.specs.inner.Taken.{ShowsMessage, ShowsWhole, both};
 
 use crate::names::CorrelationId;
 use crate::object::{End, Member, Object};
@@ -13,7 +14,7 @@ use crate::responses::{
     DeleteTopicsResponse, ElectLeadersResponse, IncrementalAlterConfigsResponse,
     ListPartitionReassignmentsResponse, MetadataResponse, UnregisterBrokerResponse,
 };
-use crate::shape::{Int32, Shape};
+use crate::shape::{Int16, Int32, Shape};
 use crate::{MessageFault, Mine};
 use kr_defs::Bytes;
 use kr_json::put_str;
@@ -47,6 +48,27 @@ impl<H: Shape, B: Shape> Shape for ResponseMessage<H, B> {
     }
 }
 
+/// An error alone.
+struct Alone<T>(PhantomData<T>);
+
+impl<T: Shape> Shape for Alone<T> {
+    ghost form = { forms.alone_form T.form };
+
+    ghost is_whole = { T.is_whole };
+
+    #[tactic(auto, using(crate::proofs::Showing::alone_taken))]
+    fn show(
+        alloc: Global,
+        from: &mut Reader<'_, Mine>,
+        out: &mut Vec<u8>,
+    ) -> Result<(), ReadFault> {
+        put_str(out, "{\"errorCode\":")?;
+        T::show(alloc, from, out)?;
+        put_str(out, "}")?;
+        Ok(())
+    }
+}
+
 type Reply<B> = ResponseMessage<ResponseHeader, B>;
 
 #[tactic(auto, using(crate::proofs::Whole::whole_taken, crate::proofs::Whole::rest_left, crate::proofs::Whole::unread))]
@@ -74,11 +96,9 @@ fn show_message<T: Shape>(alloc: Global, bytes: &[u8]) -> Result<Bytes, MessageF
     show_whole::<T>(alloc, bytes)
 }
 
-/// The JSON of the reply to a request of this key that all of the bytes are, a message without its size: an object with the members
-/// `responseHeader` and `response`, each as Kafka's JSON converters write it. Bytes that stand for no reply of that key, of the
-/// version that is served, are refused.
-pub fn reply_json(alloc: Global, api: ApiKey, bytes: &[u8]) -> Result<Bytes, MessageFault>
-    ensures { ShowsReply api bytes.now result }
+// The text of the reply to a request of this key, of the version that is served.
+fn called_json(alloc: Global, api: ApiKey, bytes: &[u8]) -> Result<Bytes, MessageFault>
+    ensures { ShowsMessage (reply_form (response_form api)) bytes.now result }
 {
     match api {
         ApiKey::BrokerRegistration => show_message::<Reply<BrokerRegistrationResponse>>(
@@ -101,5 +121,19 @@ pub fn reply_json(alloc: Global, api: ApiKey, bytes: &[u8]) -> Result<Bytes, Mes
             alloc, bytes,
         ),
         ApiKey::Metadata => show_message::<Reply<MetadataResponse>>(alloc, bytes),
+    }
+}
+
+/// The JSON of the reply to a request of this key that all of the bytes are, a message without its size, of the version that is
+/// served: an object with the members `responseHeader` and `response`, each as Kafka's JSON converters write it. Where the message
+/// was no call, the response is an error alone. Other bytes are refused.
+#[tactic(auto, using(crate::proofs::Whole::reply_shown, crate::proofs::Whole::or_bare))]
+pub fn reply_json(alloc: Global, api: ApiKey, bytes: &[u8]) -> Result<Bytes, MessageFault>
+    ensures { ShowsReply api bytes.now result }
+{
+    match called_json(alloc, api, bytes) {
+        Ok(text) => Ok(text),
+        Err(MessageFault::BadMessage) => show_message::<Reply<Alone<Int16>>>(alloc, bytes),
+        Err(MessageFault::NoMemory) => Err(MessageFault::NoMemory),
     }
 }

@@ -9,6 +9,7 @@ use Rattle.kr_wire.specs.Schema.{value_at}
 use Rattle.kr_messages.specs.declared.fault.MessageFault.{MessageFault}
 use Rattle.kr_messages.specs.declared.fault.MessageFault.TheVariants as faults
 use Rattle.kr_messages.specs.Forms.{FieldForms, Form}
+use Rattle.kr_messages.specs.Shown.{ShowsText, StandForNone}
 
 -- the value at the front was taken, and its text appended
 pub record TookText {X : Type 0} (read : List ℕ → Read X) (json : X → List ℕ) (left left' before after : List ℕ) : Type 0 where
@@ -44,6 +45,11 @@ abbrev pub ShowsWhole : Form → List ℕ → Result (List ℕ) MessageFault →
 ShowsWhole f bytes (Ok out) = ReadsText f bytes out
 ShowsWhole f bytes (Err faults.BadMessage) = IsUnread (whole f.schema bytes)
 ShowsWhole f bytes (Err faults.NoMemory) = Unit {0}
+
+abbrev pub ShowsMessage : Form → List ℕ → Result (List ℕ) MessageFault → Type 0
+ShowsMessage f bytes (Ok text) = ShowsText f bytes text
+ShowsMessage f bytes (Err faults.BadMessage) = StandForNone f bytes
+ShowsMessage f bytes (Err faults.NoMemory) = Unit {0}
 
 -- ---- steps
 
