@@ -1,6 +1,6 @@
 -- What all of some bytes are.
-use Rattle.std.proofs.Common.{◌≡◌, inl, inr, ℕ, true, false, List, [], ◌∷◌, Result, Ok, Err, refl}
-use Rattle.std.specs.Prelude.{◌==◌, length}
+use Rattle.std.proofs.Common.{◌≡◌, inl, inr, ℕ, true, false, List, [], ◌∷◌, Result, Ok, Err, refl, subst}
+use Rattle.std.specs.Prelude.{◌==◌, drop, length}
 use Rattle.kr_layout.specs.declared.fault.BodyFault.{BodyFault}
 use Rattle.kr_layout.specs.declared.fault.BodyFault.TheVariants as bodies
 use Rattle.kr_layout.specs.Answers.{whole}
@@ -17,19 +17,28 @@ use Rattle.kr_messages.specs.inner.Taken.{IsUnread, ShowsForm, ShowsMessage, Sho
 use Rattle.kr_req.specs.declared.api.ApiKey.{ApiKey}
 
 module _ (f : Form) (bytes : List ℕ) where
-  pub whole_taken : (left out : List ℕ) → ShowsForm f (Ok tt) bytes left [] out → (length left == 0) ≡ true → ShowsWhole f bytes (Ok out)
+  all_of_it : (left out : List ℕ) → ShowsForm f (Ok tt) bytes left [] out → (length left == 0) ≡ true → ShowsWhole f bytes (Ok out)
   unfolding whole
-  whole_taken [] out t none = record { value = t.value; is = rw t.took refl; text = t.wrote }
-  whole_taken (x ∷ xs) out t none = absurd cc
+  all_of_it [] out t empty = record { value = t.value; is = rw t.took refl; text = t.wrote }
+  all_of_it (x ∷ xs) out t empty = absurd cc
 
-  pub rest_left : (left out : List ℕ) → ShowsForm f (Ok tt) bytes left [] out → (length left == 0) ≡ false → ShowsWhole f bytes (Err faults.BadMessage)
-  unfolding whole
-  rest_left [] out t some = absurd cc
-  rest_left (x ∷ xs) out t some = rw t.took tt
+  pub whole_taken : (all left before out : List ℕ) → all ≡ drop 0 bytes → before ≡ [] → ShowsForm f (Ok tt) all left before out → (length left == 0) ≡ true → ShowsWhole f bytes (Ok out)
+  whole_taken all left before out is none t empty = all_of_it left out (subst (λ (l : List ℕ). ShowsForm f (Ok tt) bytes left l out) none (subst (λ (l : List ℕ). ShowsForm f (Ok tt) l left before out) is t)) empty
 
-  pub unread : (fault : WireFault) → value_at f.schema bytes ≡ Err fault → ShowsWhole f bytes (Err faults.BadMessage)
+  some_left : (left before out : List ℕ) → ShowsForm f (Ok tt) bytes left before out → (length left == 0) ≡ false → IsUnread (whole f.schema bytes)
   unfolding whole
-  unread fault refused = rw refused tt
+  some_left [] before out t some = absurd cc
+  some_left (x ∷ xs) before out t some = rw t.took tt
+
+  pub rest_left : (all left before out : List ℕ) → all ≡ drop 0 bytes → ShowsForm f (Ok tt) all left before out → (length left == 0) ≡ false → ShowsWhole f bytes (Err faults.BadMessage)
+  rest_left all left before out is t some = some_left left before out (subst (λ (l : List ℕ). ShowsForm f (Ok tt) l left before out) is t) some
+
+  not_read : (fault : WireFault) → value_at f.schema bytes ≡ Err fault → IsUnread (whole f.schema bytes)
+  unfolding whole
+  not_read fault refused = rw refused tt
+
+  pub unread : (all : List ℕ) (fault : WireFault) → all ≡ drop 0 bytes → value_at f.schema all ≡ Err fault → ShowsWhole f bytes (Err faults.BadMessage)
+  unread all fault is refused = not_read fault (subst (λ (l : List ℕ). value_at f.schema l ≡ Err fault) is refused)
 
   none_stands : is_readable f.schema ≡ true → IsBytes bytes → (read : Result f.Value BodyFault) → whole f.schema bytes ≡ read → IsUnread read → (value : f.Value) → Is f.schema value bytes → ⊥
   none_stands readable fits (Ok x) e none value is = none

@@ -80,15 +80,15 @@ abbrev pub ◌▹◌ : Field → FieldForms → FieldForms
 f ▹ others = record {
   Value = f.form.Value × others.Value;
   schema = f.form.schema ▸ others.schema;
-  json = λ is_first v. name_text is_first f.name ++ (f.form.json v.0 ++ others.json false v.1);
+  json = λ (is_first : Bool) (v : f.form.Value × others.Value). name_text is_first f.name ++ (f.form.json v.0 ++ others.json false v.1);
 }
 
 -- tagged fields of which none is known, and none is shown
 abbrev pub no_field : FieldForms
-no_field = record { Value = Unit {0}; schema = schemas.End; json = λ is_first v. [] }
+no_field = record { Value = Unit {0}; schema = schemas.End; json = λ (is_first : Bool) (v : Unit {0}). [] }
 
 abbrev pub object_form : FieldForms → Form
-object_form fields = record { Value = fields.Value; schema = fields.schema; json = λ v. codes "{" ++ (fields.json true v ++ codes "}") }
+object_form fields = record { Value = fields.Value; schema = fields.schema; json = λ (v : fields.Value). codes "{" ++ (fields.json true v ++ codes "}") }
 
 -- ---- replies
 
@@ -97,7 +97,7 @@ abbrev pub response_message_form : Form → Form → Form
 response_message_form header body = record {
   Value = header.Value × body.Value;
   schema = header.schema ▸ body.schema;
-  json = λ v. codes "{\"responseHeader\":" ++ (header.json v.0 ++ (codes ",\"response\":" ++ (body.json v.1 ++ codes "}")));
+  json = λ (v : header.Value × body.Value). codes "{\"responseHeader\":" ++ (header.json v.0 ++ (codes ",\"response\":" ++ (body.json v.1 ++ codes "}")));
 }
 
 -- Kafka's response header, version 1
@@ -109,7 +109,7 @@ reply_form body = response_message_form response_header_form body
 
 -- an error alone, which answers a message that is no call
 abbrev pub alone_form : Form → Form
-alone_form f = record { Value = f.Value; schema = f.schema; json = λ v. codes "{\"errorCode\":" ++ (f.json v ++ codes "}") }
+alone_form f = record { Value = f.Value; schema = f.schema; json = λ (v : f.Value). codes "{\"errorCode\":" ++ (f.json v ++ codes "}") }
 
 abbrev pub bare_form : Form
 bare_form = alone_form int16_form

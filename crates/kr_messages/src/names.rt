@@ -2,11 +2,11 @@
 
 ghost use Rattle.std.specs.Prelude.{codes};
 
-use crate::object::Name;
+use crate::object::FieldName;
 
 pub(crate) struct CorrelationId;
 
-impl Name for CorrelationId {
+impl FieldName for CorrelationId {
     ghost name = { codes "correlationId" };
 
     fn name() -> &'static str {
@@ -16,7 +16,7 @@ impl Name for CorrelationId {
 
 pub(crate) struct ThrottleTimeMs;
 
-impl Name for ThrottleTimeMs {
+impl FieldName for ThrottleTimeMs {
     ghost name = { codes "throttleTimeMs" };
 
     fn name() -> &'static str {
@@ -26,7 +26,7 @@ impl Name for ThrottleTimeMs {
 
 pub(crate) struct ErrorCode;
 
-impl Name for ErrorCode {
+impl FieldName for ErrorCode {
     ghost name = { codes "errorCode" };
 
     fn name() -> &'static str {
@@ -36,7 +36,7 @@ impl Name for ErrorCode {
 
 pub(crate) struct BrokerEpoch;
 
-impl Name for BrokerEpoch {
+impl FieldName for BrokerEpoch {
     ghost name = { codes "brokerEpoch" };
 
     fn name() -> &'static str {
@@ -46,7 +46,7 @@ impl Name for BrokerEpoch {
 
 pub(crate) struct IsCaughtUp;
 
-impl Name for IsCaughtUp {
+impl FieldName for IsCaughtUp {
     ghost name = { codes "isCaughtUp" };
 
     fn name() -> &'static str {
@@ -56,7 +56,7 @@ impl Name for IsCaughtUp {
 
 pub(crate) struct IsFenced;
 
-impl Name for IsFenced {
+impl FieldName for IsFenced {
     ghost name = { codes "isFenced" };
 
     fn name() -> &'static str {
@@ -66,7 +66,7 @@ impl Name for IsFenced {
 
 pub(crate) struct ShouldShutDown;
 
-impl Name for ShouldShutDown {
+impl FieldName for ShouldShutDown {
     ghost name = { codes "shouldShutDown" };
 
     fn name() -> &'static str {
@@ -76,7 +76,7 @@ impl Name for ShouldShutDown {
 
 pub(crate) struct ErrorMessage;
 
-impl Name for ErrorMessage {
+impl FieldName for ErrorMessage {
     ghost name = { codes "errorMessage" };
 
     fn name() -> &'static str {
@@ -86,7 +86,7 @@ impl Name for ErrorMessage {
 
 pub(crate) struct Name;
 
-impl Name for Name {
+impl FieldName for Name {
     ghost name = { codes "name" };
 
     fn name() -> &'static str {
@@ -96,7 +96,7 @@ impl Name for Name {
 
 pub(crate) struct Value;
 
-impl Name for Value {
+impl FieldName for Value {
     ghost name = { codes "value" };
 
     fn name() -> &'static str {
@@ -106,7 +106,7 @@ impl Name for Value {
 
 pub(crate) struct ReadOnly;
 
-impl Name for ReadOnly {
+impl FieldName for ReadOnly {
     ghost name = { codes "readOnly" };
 
     fn name() -> &'static str {
@@ -116,7 +116,7 @@ impl Name for ReadOnly {
 
 pub(crate) struct ConfigSource;
 
-impl Name for ConfigSource {
+impl FieldName for ConfigSource {
     ghost name = { codes "configSource" };
 
     fn name() -> &'static str {
@@ -126,7 +126,7 @@ impl Name for ConfigSource {
 
 pub(crate) struct IsSensitive;
 
-impl Name for IsSensitive {
+impl FieldName for IsSensitive {
     ghost name = { codes "isSensitive" };
 
     fn name() -> &'static str {
@@ -136,7 +136,7 @@ impl Name for IsSensitive {
 
 pub(crate) struct TopicId;
 
-impl Name for TopicId {
+impl FieldName for TopicId {
     ghost name = { codes "topicId" };
 
     fn name() -> &'static str {
@@ -146,7 +146,7 @@ impl Name for TopicId {
 
 pub(crate) struct NumPartitions;
 
-impl Name for NumPartitions {
+impl FieldName for NumPartitions {
     ghost name = { codes "numPartitions" };
 
     fn name() -> &'static str {
@@ -156,7 +156,7 @@ impl Name for NumPartitions {
 
 pub(crate) struct ReplicationFactor;
 
-impl Name for ReplicationFactor {
+impl FieldName for ReplicationFactor {
     ghost name = { codes "replicationFactor" };
 
     fn name() -> &'static str {
@@ -166,7 +166,7 @@ impl Name for ReplicationFactor {
 
 pub(crate) struct Configs;
 
-impl Name for Configs {
+impl FieldName for Configs {
     ghost name = { codes "configs" };
 
     fn name() -> &'static str {
@@ -176,7 +176,7 @@ impl Name for Configs {
 
 pub(crate) struct Topics;
 
-impl Name for Topics {
+impl FieldName for Topics {
     ghost name = { codes "topics" };
 
     fn name() -> &'static str {
@@ -186,7 +186,7 @@ impl Name for Topics {
 
 pub(crate) struct Responses;
 
-impl Name for Responses {
+impl FieldName for Responses {
     ghost name = { codes "responses" };
 
     fn name() -> &'static str {
@@ -196,7 +196,7 @@ impl Name for Responses {
 
 pub(crate) struct Results;
 
-impl Name for Results {
+impl FieldName for Results {
     ghost name = { codes "results" };
 
     fn name() -> &'static str {
@@ -206,7 +206,7 @@ impl Name for Results {
 
 pub(crate) struct PartitionIndex;
 
-impl Name for PartitionIndex {
+impl FieldName for PartitionIndex {
     ghost name = { codes "partitionIndex" };
 
     fn name() -> &'static str {
@@ -216,7 +216,7 @@ impl Name for PartitionIndex {
 
 pub(crate) struct LeaderId;
 
-impl Name for LeaderId {
+impl FieldName for LeaderId {
     ghost name = { codes "leaderId" };
 
     fn name() -> &'static str {
@@ -226,7 +226,7 @@ impl Name for LeaderId {
 
 pub(crate) struct LeaderEpoch;
 
-impl Name for LeaderEpoch {
+impl FieldName for LeaderEpoch {
     ghost name = { codes "leaderEpoch" };
 
     fn name() -> &'static str {
@@ -236,7 +236,7 @@ impl Name for LeaderEpoch {
 
 pub(crate) struct Isr;
 
-impl Name for Isr {
+impl FieldName for Isr {
     ghost name = { codes "isr" };
 
     fn name() -> &'static str {
@@ -246,7 +246,7 @@ impl Name for Isr {
 
 pub(crate) struct LeaderRecoveryState;
 
-impl Name for LeaderRecoveryState {
+impl FieldName for LeaderRecoveryState {
     ghost name = { codes "leaderRecoveryState" };
 
     fn name() -> &'static str {
@@ -256,7 +256,7 @@ impl Name for LeaderRecoveryState {
 
 pub(crate) struct PartitionEpoch;
 
-impl Name for PartitionEpoch {
+impl FieldName for PartitionEpoch {
     ghost name = { codes "partitionEpoch" };
 
     fn name() -> &'static str {
@@ -266,7 +266,7 @@ impl Name for PartitionEpoch {
 
 pub(crate) struct Partitions;
 
-impl Name for Partitions {
+impl FieldName for Partitions {
     ghost name = { codes "partitions" };
 
     fn name() -> &'static str {
@@ -276,7 +276,7 @@ impl Name for Partitions {
 
 pub(crate) struct PartitionId;
 
-impl Name for PartitionId {
+impl FieldName for PartitionId {
     ghost name = { codes "partitionId" };
 
     fn name() -> &'static str {
@@ -286,7 +286,7 @@ impl Name for PartitionId {
 
 pub(crate) struct Topic;
 
-impl Name for Topic {
+impl FieldName for Topic {
     ghost name = { codes "topic" };
 
     fn name() -> &'static str {
@@ -296,7 +296,7 @@ impl Name for Topic {
 
 pub(crate) struct PartitionResult;
 
-impl Name for PartitionResult {
+impl FieldName for PartitionResult {
     ghost name = { codes "partitionResult" };
 
     fn name() -> &'static str {
@@ -306,7 +306,7 @@ impl Name for PartitionResult {
 
 pub(crate) struct ReplicaElectionResults;
 
-impl Name for ReplicaElectionResults {
+impl FieldName for ReplicaElectionResults {
     ghost name = { codes "replicaElectionResults" };
 
     fn name() -> &'static str {
@@ -316,7 +316,7 @@ impl Name for ReplicaElectionResults {
 
 pub(crate) struct Replicas;
 
-impl Name for Replicas {
+impl FieldName for Replicas {
     ghost name = { codes "replicas" };
 
     fn name() -> &'static str {
@@ -326,7 +326,7 @@ impl Name for Replicas {
 
 pub(crate) struct AddingReplicas;
 
-impl Name for AddingReplicas {
+impl FieldName for AddingReplicas {
     ghost name = { codes "addingReplicas" };
 
     fn name() -> &'static str {
@@ -336,7 +336,7 @@ impl Name for AddingReplicas {
 
 pub(crate) struct RemovingReplicas;
 
-impl Name for RemovingReplicas {
+impl FieldName for RemovingReplicas {
     ghost name = { codes "removingReplicas" };
 
     fn name() -> &'static str {
@@ -346,7 +346,7 @@ impl Name for RemovingReplicas {
 
 pub(crate) struct ResourceType;
 
-impl Name for ResourceType {
+impl FieldName for ResourceType {
     ghost name = { codes "resourceType" };
 
     fn name() -> &'static str {
@@ -356,7 +356,7 @@ impl Name for ResourceType {
 
 pub(crate) struct ResourceName;
 
-impl Name for ResourceName {
+impl FieldName for ResourceName {
     ghost name = { codes "resourceName" };
 
     fn name() -> &'static str {
@@ -366,7 +366,7 @@ impl Name for ResourceName {
 
 pub(crate) struct NodeId;
 
-impl Name for NodeId {
+impl FieldName for NodeId {
     ghost name = { codes "nodeId" };
 
     fn name() -> &'static str {
@@ -376,7 +376,7 @@ impl Name for NodeId {
 
 pub(crate) struct Host;
 
-impl Name for Host {
+impl FieldName for Host {
     ghost name = { codes "host" };
 
     fn name() -> &'static str {
@@ -386,7 +386,7 @@ impl Name for Host {
 
 pub(crate) struct Port;
 
-impl Name for Port {
+impl FieldName for Port {
     ghost name = { codes "port" };
 
     fn name() -> &'static str {
@@ -396,7 +396,7 @@ impl Name for Port {
 
 pub(crate) struct Rack;
 
-impl Name for Rack {
+impl FieldName for Rack {
     ghost name = { codes "rack" };
 
     fn name() -> &'static str {
@@ -406,7 +406,7 @@ impl Name for Rack {
 
 pub(crate) struct ReplicaNodes;
 
-impl Name for ReplicaNodes {
+impl FieldName for ReplicaNodes {
     ghost name = { codes "replicaNodes" };
 
     fn name() -> &'static str {
@@ -416,7 +416,7 @@ impl Name for ReplicaNodes {
 
 pub(crate) struct IsrNodes;
 
-impl Name for IsrNodes {
+impl FieldName for IsrNodes {
     ghost name = { codes "isrNodes" };
 
     fn name() -> &'static str {
@@ -426,7 +426,7 @@ impl Name for IsrNodes {
 
 pub(crate) struct OfflineReplicas;
 
-impl Name for OfflineReplicas {
+impl FieldName for OfflineReplicas {
     ghost name = { codes "offlineReplicas" };
 
     fn name() -> &'static str {
@@ -436,7 +436,7 @@ impl Name for OfflineReplicas {
 
 pub(crate) struct IsInternal;
 
-impl Name for IsInternal {
+impl FieldName for IsInternal {
     ghost name = { codes "isInternal" };
 
     fn name() -> &'static str {
@@ -446,7 +446,7 @@ impl Name for IsInternal {
 
 pub(crate) struct TopicAuthorizedOperations;
 
-impl Name for TopicAuthorizedOperations {
+impl FieldName for TopicAuthorizedOperations {
     ghost name = { codes "topicAuthorizedOperations" };
 
     fn name() -> &'static str {
@@ -456,7 +456,7 @@ impl Name for TopicAuthorizedOperations {
 
 pub(crate) struct Brokers;
 
-impl Name for Brokers {
+impl FieldName for Brokers {
     ghost name = { codes "brokers" };
 
     fn name() -> &'static str {
@@ -466,7 +466,7 @@ impl Name for Brokers {
 
 pub(crate) struct ClusterId;
 
-impl Name for ClusterId {
+impl FieldName for ClusterId {
     ghost name = { codes "clusterId" };
 
     fn name() -> &'static str {
@@ -476,7 +476,7 @@ impl Name for ClusterId {
 
 pub(crate) struct ControllerId;
 
-impl Name for ControllerId {
+impl FieldName for ControllerId {
     ghost name = { codes "controllerId" };
 
     fn name() -> &'static str {

@@ -14,7 +14,7 @@ use std::alloc::{AllocError, Global};
 use std::marker::PhantomData;
 
 /// The name of a field.
-pub(crate) trait Name {
+pub(crate) trait FieldName {
     ghost name: { List ℕ };
 
     fn name() -> &'static str
@@ -62,7 +62,7 @@ impl Fields for End {
 pub(crate) struct Member<N, T, R>(PhantomData<(N, T, R)>);
 
 // The name, and what stands before and behind it.
-fn put_name<N: Name>(is_first: bool, out: &mut Vec<u8>) -> Result<(), AllocError>
+fn put_name<N: FieldName>(is_first: bool, out: &mut Vec<u8>) -> Result<(), AllocError>
     ensures { OnOk result (out.new.items ≡ out.old.items ++ forms.name_text is_first N.name) }
 {
     put_str(out, if is_first { "\"" } else { ",\"" })?;
@@ -70,7 +70,7 @@ fn put_name<N: Name>(is_first: bool, out: &mut Vec<u8>) -> Result<(), AllocError
     put_str(out, "\":")
 }
 
-impl<N: Name, T: Shape, R: Fields> Fields for Member<N, T, R> {
+impl<N: FieldName, T: Shape, R: Fields> Fields for Member<N, T, R> {
     ghost fields = { N.name ∶ T.form ▹ R.fields };
 
     ghost is_whole = { both T.is_whole R.is_whole };
