@@ -1,5 +1,4 @@
--- The parts of messages: how each stands in bytes, by the types of Kafka's protocol, and how it is shown, as Kafka's JSON converters
--- of the message schemas write it (RFC 8259).
+-- Parts of messages: their layouts, and their texts as Kafka's JSON converters write them (RFC 8259).
 use Rattle.std.specs.Prelude.{ℕ, Bool, true, false, List, [], ◌++◌, Option, Some, None, Unit, codes, if◌then◌else◌}
 use Rattle.std.specs.Fmt.{signed_decimal}
 use Rattle.kr_json.specs.JsonText as texts

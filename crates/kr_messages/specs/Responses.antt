@@ -1,4 +1,4 @@
--- The bodies of replies, field by field as in Kafka's schemas, each of the version that is served.
+-- Bodies of replies, field by field as in Kafka's schemas, of the versions that are served.
 use Rattle.std.specs.Prelude.{codes}
 use Rattle.kr_messages.specs.Forms.{Form, ◌∶◌, ◌▹◌, array_form, boolean_form, no_field, int8_form, int16_form, int32_form, int64_form, nullable_array_form, nullable_text_form, object_form, text_form, uuid_form}
 

@@ -1,4 +1,4 @@
--- What is shown of a message.
+-- What is shown of a reply.
 use Rattle.std.specs.Prelude.{◌≡◌, ◌⊎◌, ℕ, List, Result, Ok, Err, Unit}
 use Rattle.kr_wire.specs.Schema.{Is}
 use Rattle.kr_req.specs.declared.api.ApiKey.{ApiKey}

@@ -4,7 +4,7 @@ ghost use Rattle.std.specs.Prelude.{◌≡◌};
 ghost use Rattle.kr_messages.specs.Forms as forms;
 ghost use Rattle.kr_messages.specs.Forms.{reply_form};
 ghost use Rattle.kr_messages.specs.Shown.{ShowsReply, response_form};
-ghost use Rattle.kr_messages.specs.inner.Taken.{ShowsMessage, ShowsWhole, both};
+ghost use Rattle.kr_messages.specs.inner.Taken.{ShowsMessage, ReadsWhole, both};
 
 use crate::names::CorrelationId;
 use crate::object::{End, Member, Object};
@@ -73,7 +73,7 @@ type Reply<B> = ResponseMessage<ResponseHeader, B>;
 
 #[tactic(auto, using(crate::proofs::Whole::whole_taken, crate::proofs::Whole::rest_left, crate::proofs::Whole::unread))]
 fn show_whole<T: Shape>(alloc: Global, bytes: &[u8]) -> Result<Bytes, MessageFault>
-    ensures { ShowsWhole T.form bytes.now result }
+    ensures { ReadsWhole T.form bytes.now result }
 {
     let mut from: Reader<'_, Mine> = Reader::new(alloc, bytes, 0);
     let mut out = Vec::new(alloc);

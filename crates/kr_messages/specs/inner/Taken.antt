@@ -30,10 +30,10 @@ ShowsFields f is_first = Transcribes (value_at f.schema) (f.json is_first)
 -- ---- all of some bytes
 
 -- a fault of the bytes themselves
-abbrev pub IsUnread : {X : Type 0} → Result X BodyFault → Type 0
-IsUnread (Ok x) = ⊥
-IsUnread (Err bodies.NoMemory) = ⊥
-IsUnread (Err other) = Unit {0}
+abbrev pub HasOwnFault : {X : Type 0} → Result X BodyFault → Type 0
+HasOwnFault (Ok x) = ⊥
+HasOwnFault (Err bodies.NoMemory) = ⊥
+HasOwnFault (Err other) = Unit {0}
 
 -- the text of the value that all of the bytes give
 pub record ReadsText (f : Form) (bytes out : List ℕ) : Type 0 where
@@ -41,10 +41,10 @@ pub record ReadsText (f : Form) (bytes out : List ℕ) : Type 0 where
   pub is : whole f.schema bytes ≡ Ok value
   pub text : out ≡ f.json value
 
-abbrev pub ShowsWhole : Form → List ℕ → Result (List ℕ) MessageFault → Type 0
-ShowsWhole f bytes (Ok out) = ReadsText f bytes out
-ShowsWhole f bytes (Err faults.BadMessage) = IsUnread (whole f.schema bytes)
-ShowsWhole f bytes (Err faults.NoMemory) = Unit {0}
+abbrev pub ReadsWhole : Form → List ℕ → Result (List ℕ) MessageFault → Type 0
+ReadsWhole f bytes (Ok out) = ReadsText f bytes out
+ReadsWhole f bytes (Err faults.BadMessage) = HasOwnFault (whole f.schema bytes)
+ReadsWhole f bytes (Err faults.NoMemory) = Unit {0}
 
 abbrev pub ShowsMessage : Form → List ℕ → Result (List ℕ) MessageFault → Type 0
 ShowsMessage f bytes (Ok text) = ShowsText f bytes text
