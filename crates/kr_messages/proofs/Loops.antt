@@ -1,5 +1,5 @@
 -- The elements of a list, taken and shown one after the other.
-use Rattle.std.proofs.Common.{◌≡◌, ◌∙◌, ℕ, ◌+◌, ◌-◌, ◌<◌, ◌≤◌, Bool, true, false, List, [], ◌∷◌, ◌++◌, append-nil, append_assoc, Result, Ok, Err, refl, sym, ap, arith}
+use Rattle.std.proofs.Common.{◌≡◌, ◌∙◌, ℕ, ◌+◌, ◌-◌, ◌<◌, ◌≤◌, Bool, true, false, List, [], ◌∷◌, ◌++◌, append-nil, append_assoc, Result, Ok, Err, refl, sym, ap, subst, arith}
 use Rattle.std.specs.List.{flat_map}
 use Rattle.std.proofs.lemmas.Grind.{flat_map-append}
 use Rattle.kr_json.specs.JsonText.{elements, further}
@@ -26,7 +26,7 @@ module _ {X : Type 0} (one : List ℕ → Read X) (json : X → List ℕ) where
   pub begun : (count : ℕ) (left before : List ℕ) → TakesSome one json count 0 false left left before before
   begun count left before =
       let all : count - 0 ≡ count = omega arith in
-      record { front = []; took = rw all (none_before (elements_at one count left)); wrote = sym (append-nil before); further = refl }
+      record { front = []; took = subst (λ (n : ℕ). with_front one [] (elements_at one n left) ≡ elements_at one count left) (sym all) (none_before (elements_at one count left)); wrote = sym (append-nil before); further = refl }
 
   shown_more : (xs : List X) (x : X) → elements json (xs ++ x ∷ []) ≡ elements json xs ++ (comma (is_some xs) ++ json x)
   shown_more [] x = append-nil (json x)

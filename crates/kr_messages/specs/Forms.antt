@@ -61,9 +61,12 @@ pub record FieldForms : Type 1 where
   pub schema : Schema Value
   pub json : Bool → Value → List ℕ
 
--- a field's name and what stands before its value
+-- what stands before a field's name
+abbrev pub name_lead : Bool → List ℕ
+name_lead is_first = if is_first then codes "\"" else codes ",\""
+
 abbrev pub name_text : Bool → List ℕ → List ℕ
-name_text is_first name = (if is_first then codes "\"" else codes ",\"") ++ (name ++ codes "\":")
+name_text is_first name = name_lead is_first ++ (name ++ codes "\":")
 
 pub record Field : Type 1 where
   pub name : List ℕ

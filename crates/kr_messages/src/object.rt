@@ -61,11 +61,17 @@ impl Fields for End {
 /// A field with its name, and the fields behind it.
 pub(crate) struct Member<N, T, R>(PhantomData<(N, T, R)>);
 
+fn put_lead(is_first: bool, out: &mut Vec<u8>) -> Result<(), AllocError>
+    ensures { OnOk result (out.new.items ≡ out.old.items ++ forms.name_lead is_first) }
+{
+    put_str(out, if is_first { "\"" } else { ",\"" })
+}
+
 // The name, and what stands before and behind it.
 fn put_name<N: FieldName>(is_first: bool, out: &mut Vec<u8>) -> Result<(), AllocError>
     ensures { OnOk result (out.new.items ≡ out.old.items ++ forms.name_text is_first N.name) }
 {
-    put_str(out, if is_first { "\"" } else { ",\"" })?;
+    put_lead(is_first, out)?;
     put_str(out, N::name())?;
     put_str(out, "\":")
 }
