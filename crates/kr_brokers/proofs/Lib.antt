@@ -1,3 +1,4 @@
 pub mod FencingMeanings
+pub mod ReadOffsets
 pub mod StoppingBeats
 pub mod UnfencedBrokers

@@ -1,6 +1,6 @@
--- The active brokers once one of them is unfenced.
+-- The active brokers once one of them is unfenced, and the elections that it may win.
 use Rattle.std.proofs.Common.{◌≡◌, ◌∙◌, ℤ, pos, negsuc, Bool, true, false, not, ◌&&◌, ◌||◌, cond, List, [], ◌∷◌, refl, sym, ap, subst}
-use Rattle.std.specs.Prelude.{Some, None, filter, map, if◌then◌else◌}
+use Rattle.std.specs.Prelude.{Option, Some, None, filter, map, if◌then◌else◌}
 use Rattle.std.specs.declared.cmp.Ordering.TheVariants.{Less, Equal, Greater}
 use Rattle.std.specs.Ordering.{is_eq, match_ordering, ordering_reverse, int_cmp, int_eq}
 use Rattle.std.specs.BTreeMap.{insert_entry}
@@ -10,6 +10,7 @@ use Rattle.std.specs.Map.{keys_of}
 use Rattle.std.proofs.lemmas.Cmp.{int_cmp_total}
 use Rattle.kr_defs.specs.declared.broker.Broker.{Broker}
 use Rattle.kr_defs.specs.Apply.{changed}
+use Rattle.kr_defs.specs.declared.partition.PartitionChange.{PartitionChange}
 use Rattle.kr_defs.specs.declared.record.Record.{Record}
 use Rattle.kr_defs.specs.Brokers.{is_active, active_of}
 use Rattle.kr_defs.specs.Build.{built}
@@ -23,7 +24,9 @@ use Rattle.kr_defs.proofs.Maps.{below_all, none_below}
 use Rattle.kr_defs.proofs.Tests.{some_is}
 use Rattle.kr_defs.proofs.Walks.{behind_apart}
 use Rattle.kr_calls.specs.BrokerHeartbeat.{electing, waits_for}
+use Rattle.kr_replicas.specs.BrokerPartitions.{has_replica}
 use Rattle.kr_replication.specs.BrokerIds.{ids_where}
+use Rattle.kr_replication.specs.ListedWalks.{ConcernsOnly}
 use Rattle.kr_brokers.specs.Unfencing.{active_with, electing_with}
 
 module _ (b : ℤ) where
@@ -89,3 +92,14 @@ pub elections_once_unfenced : (minimum b : ℤ) (image : Image) (state : Broker)
 elections_once_unfenced minimum b image state ordered found =
     let elections : List ℤ → List Record = λ active. changes_of (λ w. if waits_for b w.partition then built w.partition (default_want w.partition) (facts_with minimum image active w.topic) else None) (walk image) in
     ap elections (sym (active_once_unfenced b state image.brokers ordered found))
+
+-- no other partition waits for the broker than those that it is a replica of
+nobody_waits : (c : Bool) (change : Option PartitionChange) → (if c && false then change else None) ≡ None
+nobody_waits true change = refl
+nobody_waits false change = refl
+
+pub electing_concerns : (minimum broker : ℤ) (image : Image) → ConcernsOnly (has_replica broker) (electing_with minimum broker image)
+electing_concerns minimum broker image w formed absent =
+    let none : Bool = int_eq w.partition.leader (negsuc 0) in
+    let change : Option PartitionChange = built w.partition (default_want w.partition) (facts_with minimum image (ids_where (active_with broker) image.brokers) w.topic) in
+    ap (λ b. if none && b then change else None) absent ∙ nobody_waits none change

@@ -1,18 +1,19 @@
 //! A broker is alive: it is unfenced, told to stop, or fenced.
 
-ghost use Rattle.std.specs.Prelude.{◌≡◌, pos, true, false, int_le, Some, IfOk};
+ghost use Rattle.std.specs.Prelude.{◌≡◌, pos, false, int_lt, Some, IfOk, IsSome};
 ghost use Rattle.std.specs.Option.{option_map_or};
 ghost use Rattle.std.specs.Ordering.{int_cmp, int_eq};
 ghost use Rattle.kr_defs.specs.declared.record.Record.TheVariants as kinds;
 ghost use Rattle.kr_defs.specs.Map as entries;
 ghost use Rattle.kr_calls.specs.BrokerHeartbeat as broker_heartbeat;
+ghost use Rattle.kr_brokers.specs.Stopping.{have_read, lags};
 
 use crate::elections::unfencing_records;
 use kr_base::{NoMemory, Steps};
 use kr_calls::errors::STALE_BROKER_EPOCH;
 use kr_calls::{BrokerHeartbeat, BrokerHeartbeatReply, Draft, Effect, Reply};
 use kr_defs::{Broker, Options, Record, Records};
-use kr_replication::{FencingIndex, active, fencing_records, leads, take_out};
+use kr_replication::{fencing_records, is_active, leads, take_out};
 use kr_rules::{Handler, Refusal, Rule, Work, decide_one};
 use kr_sessions::{Context, Sessions};
 use kr_store::{Seen, Store};
@@ -75,33 +76,47 @@ fn of_fenced<S: Store>(
     Ok(draft_of(request, records, false, false))
 }
 
-// The offset that all have read is at least the tip when the broker began to stop.
-fn is_reached(since: &i64, lowest: Option<i64>) -> bool
-    ensures { result ≡ option_map_or (λ offset. int_le since.now offset) lowest true }
+// The offset is below the tip when the broker began to stop.
+fn is_below(offset: Option<i64>, since: &i64) -> bool
+    ensures { result ≡ option_map_or (λ offset. int_lt offset since.now) offset false }
 {
-    match lowest {
-        Some(offset) => *since <= offset,
-        None => true,
+    match offset {
+        Some(offset) => offset < *since,
+        None => false,
     }
 }
 
-// Every active broker has told of an offset that is at least the tip when the broker began to stop.
-fn is_passed_on<S: Store>(
-    alloc: Global,
-    seen: &Seen<S>,
-    sessions: &Sessions,
-    broker: &i32,
-) -> Result<bool, NoMemory>
-    ensures { IfOk result (λ passed. passed ≡
-        broker_heartbeat.is_passed_on sessions.now.heartbeats seen.now broker.now) }
+// The broker is active, and has told of an offset below the tip when the stopping broker began to stop.
+fn lags(sessions: &Sessions, since: &i64, id: &i32, state: &Broker) -> bool
+    ensures { result ≡ lags sessions.now.heartbeats since.now (id.now, state.now) }
+{
+    is_active(state) && is_below(sessions.offset_of(*id), since)
+}
+
+// Every active broker that is a contact has told of an offset that is at least the tip when the stopping broker began to stop.
+fn have_read<S: Store>(seen: &Seen<S>, sessions: &Sessions, since: &i64) -> bool
+    ensures { result ≡ have_read sessions.now.heartbeats seen.now since.now }
+{
+    seen.is_valid();
+    let mut after = None;
+    while let Some((id, state)) = seen.next_broker(after) {
+        if lags(sessions, since, id, state) {
+            return false;
+        }
+        after = Some(id);
+    }
+    true
+}
+
+// All have read what the broker led when it began to stop.
+fn is_passed_on<S: Store>(seen: &Seen<S>, sessions: &Sessions, broker: &i32) -> bool
+    ensures { result ≡
+        broker_heartbeat.is_passed_on sessions.now.heartbeats seen.now broker.now }
 {
     let stopped = sessions.stopped_at(*broker);
     match &stopped {
-        Some(since) => {
-            let active = active(alloc, seen)?;
-            Ok(is_reached(since, sessions.lowest_offset(&active)))
-        }
-        None => Ok(false),
+        Some(since) => have_read(seen, sessions, since),
+        None => false,
     }
 }
 
@@ -115,15 +130,8 @@ fn of_stopping<S: Store>(
     ensures { IfOk result (λ draft. draft ≡ broker_heartbeat.told request.now
         (broker_heartbeat.of_stopping minimum.now sessions.now.heartbeats seen.now request.now)) }
 {
-    if is_passed_on(alloc, seen, sessions, &request.broker)? {
-        let records = fencing_records(
-            alloc,
-            seen,
-            minimum,
-            &request.broker,
-            &request.epoch,
-            &FencingIndex::new(alloc),
-        )?;
+    if is_passed_on(seen, sessions, &request.broker) {
+        let records = fencing_records(alloc, seen, minimum, &request.broker, &request.epoch)?;
         Ok(draft_of(request, records, true, true))
     } else {
         Ok(draft_of(request, Records::new(alloc), false, false))
@@ -164,18 +172,12 @@ fn of_active<S: Store>(
     minimum: &i32,
     request: &BrokerHeartbeat,
 ) -> Result<Draft<BrokerHeartbeatReply>, NoMemory>
+    requires { IsSome (entries.get int_cmp seen.now.brokers request.now.broker) }
     ensures { IfOk result (λ draft. draft ≡ broker_heartbeat.told request.now
         (broker_heartbeat.of_active minimum.now seen.now request.now)) }
 {
     if request.want_fence {
-        let records = fencing_records(
-            alloc,
-            seen,
-            minimum,
-            &request.broker,
-            &request.epoch,
-            &FencingIndex::new(alloc),
-        )?;
+        let records = fencing_records(alloc, seen, minimum, &request.broker, &request.epoch)?;
         return Ok(draft_of(request, records, true, request.want_shutdown));
     }
     if !request.want_shutdown {
@@ -185,14 +187,7 @@ fn of_active<S: Store>(
         let records = stopping_records(alloc, seen, minimum, &request.broker, &request.epoch)?;
         return Ok(draft_of(request, records, false, false));
     }
-    let records = fencing_records(
-        alloc,
-        seen,
-        minimum,
-        &request.broker,
-        &request.epoch,
-        &FencingIndex::new(alloc),
-    )?;
+    let records = fencing_records(alloc, seen, minimum, &request.broker, &request.epoch)?;
     Ok(draft_of(request, records, true, true))
 }
 

@@ -13,7 +13,9 @@ ghost use Rattle.kr_brokers.specs.Unfencing.{active_with, electing_with};
 
 use kr_base::NoMemory;
 use kr_defs::{Broker, Partition, PartitionChange, Record, Records, Text, Want};
-use kr_replication::{BrokerTest, Change, add_changes, build_with, default_want, is_active};
+use kr_replication::{
+    BrokerTest, Change, add_changes_of_broker, build_with, default_want, is_active,
+};
 use kr_store::{Seen, Store};
 use std::alloc::Global;
 
@@ -111,7 +113,7 @@ fn add_elections<S: Store>(
 {
     seen.is_valid();
     let rule = candidate_of(minimum, broker);
-    add_changes(alloc, seen, &rule, records)?;
+    add_changes_of_broker(alloc, seen, &rule, broker, records)?;
     Ok(())
 }
 

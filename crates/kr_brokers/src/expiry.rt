@@ -1,19 +1,18 @@
 //! A broker that isn't heard of is fenced.
 
-ghost use Rattle.std.specs.Prelude.{◌≡◌, ◌≤◌, ◌+◌, Ok, Some, IsOk, IsSome, OnOk, OnErr};
+ghost use Rattle.std.specs.Prelude.{◌≡◌, ◌≤◌, ◌+◌, Ok, Some, IsOk, IsSome, OnOk, OnErr, length};
 ghost use Rattle.std.specs.Ordering.{int_cmp};
 ghost use Rattle.kr_defs.specs.Map as entries;
 ghost use Rattle.kr_calls.specs.Deciding.{apply_records, weights};
 ghost use Rattle.kr_rules.specs.Handlers.{IsAtPlace};
 ghost use Rattle.kr_store.specs.Images.{IsSettled, last_kept};
-ghost use Rattle.kr_replication.specs.FencingIndex.{Indexes};
 ghost use Rattle.kr_brokers.specs.Expiry.{FencesExpired};
 
 use kr_base::{NoMemory, Steps};
 use kr_calls::Effect;
 use kr_calls::laws::taking_out_is_never_refused;
 use kr_defs::Record;
-use kr_replication::{FencingIndex, fencing_records};
+use kr_replication::fencing_records;
 use kr_sessions::Context;
 use kr_store::{ApplyFault, Seen, Store};
 use std::alloc::Global;
@@ -37,6 +36,7 @@ fn apply_all<S: Store, L: Ledger>(
     ensures settled { IsSettled (S.images store.old) → IsSettled (S.images store.new) }
     ensures made { OnOk result ((S.images store.new).made ≤
         (S.images store.old).made + weights (S.images store.old).tip records.now) }
+    ensures counted { OnOk result (steps.new ≡ steps.old + length records.now) }
     ensures later { steps.old ≤ steps.new }
 {
     for record in records {
@@ -49,48 +49,7 @@ fn apply_all<S: Store, L: Ledger>(
     Ok(())
 }
 
-/// A broker of the contacts is fenced, as its session has expired. The index says of which partitions it has replicas. The
-/// reply stays as it was.
-pub fn fence_by<S: Store, L: Ledger>(
-    alloc: Global,
-    store: &mut S,
-    context: &Context,
-    broker: &i32,
-    index: &FencingIndex,
-    out: &mut Effect,
-    steps: &mut Steps<L>,
-) -> Result<(), NoMemory>
-    requires here { IsAtPlace (S.images store.old) context.now.place }
-    requires registered { IsSome (entries.get int_cmp (S.images store.old).tip.brokers broker.now) }
-    requires indexed { Indexes index.now (S.images store.old).tip }
-    ensures records { FencesExpired result context.entry.now.options.now.minimum
-        (S.images store.old).tip broker.now out.new.records }
-    ensures image { OnOk result (apply_records (S.images store.old).tip out.new.records ≡
-        Ok (S.images store.new).tip) }
-    ensures reply { out.new.reply ≡ out.old.reply }
-    ensures same { OnErr result (out.new ≡ out.old) }
-    ensures kept { (S.images store.new).kept ≡ (S.images store.old).kept }
-    ensures calls { (S.images store.new).kept_made ≡ (S.images store.old).kept_made }
-    ensures begins { (S.images store.new).kept_begun ≡ (S.images store.old).kept_begun }
-    ensures settled { IsSettled (S.images store.old) → IsSettled (S.images store.new) }
-    ensures made { OnOk result ((S.images store.new).made ≤
-        (S.images store.old).made + weights (S.images store.old).tip out.new.records) }
-    ensures later { steps.old ≤ steps.new }
-{
-    taking_out_is_never_refused();
-    let seen = Seen::tip(store);
-    seen.is_valid();
-    let Some(state) = seen.broker(broker) else {
-        return Ok(());
-    };
-    let minimum = &context.options.minimum;
-    let records = fencing_records(alloc, &seen, minimum, broker, &state.epoch, index)?;
-    apply_all(store, &context.place, records.as_slice(), steps)?;
-    out.records = records;
-    Ok(())
-}
-
-/// A broker of the contacts is fenced, as its session has expired. The reply stays as it was.
+/// A broker of the contacts is fenced, as its session has expired. The reply stays as it was. Each record is a step.
 pub fn fence<S: Store, L: Ledger>(
     alloc: Global,
     store: &mut S,
@@ -113,8 +72,18 @@ pub fn fence<S: Store, L: Ledger>(
     ensures settled { IsSettled (S.images store.old) → IsSettled (S.images store.new) }
     ensures made { OnOk result ((S.images store.new).made ≤
         (S.images store.old).made + weights (S.images store.old).tip out.new.records) }
+    ensures counted { OnOk result (steps.new ≡ steps.old + length out.new.records) }
     ensures later { steps.old ≤ steps.new }
 {
-    let nobody = FencingIndex::new(alloc);
-    fence_by(alloc, store, context, broker, &nobody, out, steps)
+    taking_out_is_never_refused();
+    let seen = Seen::tip(store);
+    seen.is_valid();
+    let Some(state) = seen.broker(broker) else {
+        return Ok(());
+    };
+    let minimum = &context.options.minimum;
+    let records = fencing_records(alloc, &seen, minimum, broker, &state.epoch)?;
+    apply_all(store, &context.place, records.as_slice(), steps)?;
+    out.records = records;
+    Ok(())
 }

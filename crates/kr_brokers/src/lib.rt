@@ -11,5 +11,5 @@ mod unregister_broker;
 pub use broker_heartbeat::BrokerHeartbeatHandler;
 pub use broker_registration::BrokerRegistrationHandler;
 pub use contacts::hear;
-pub use expiry::{fence, fence_by};
+pub use expiry::fence;
 pub use unregister_broker::UnregisterBrokerHandler;

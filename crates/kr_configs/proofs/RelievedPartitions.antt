@@ -12,6 +12,7 @@ use Rattle.std.specs.Ordering.{int_eq, is_eq}
 use Rattle.std.proofs.lemmas.List.{append-nil}
 use Rattle.std.proofs.lemmas.List.Elements.{filter_map-append}
 use Rattle.kr_defs.specs.declared.partition.Partition.{Partition}
+use Rattle.kr_defs.specs.declared.partition.PartitionChange.{PartitionChange}
 use Rattle.kr_defs.specs.declared.options.Options.{Options}
 use Rattle.kr_defs.specs.declared.record.Record.{Record}
 use Rattle.kr_defs.specs.Apply.{broker_kind, topic_kind}
@@ -26,7 +27,9 @@ use Rattle.kr_defs.proofs.Maps.{none_below}
 use Rattle.kr_defs.proofs.Tests.{both}
 use Rattle.kr_calls.specs.declared.incremental_alter_configs.ConfigResource.{ConfigResource}
 use Rattle.kr_calls.specs.IncrementalAlterConfigs.{Values, is_same_value, relief, value_now}
-use Rattle.kr_configs.specs.inner.NewSettings.{after, has_enough, has_standing_by, keeps_minimum}
+use Rattle.kr_replicas.specs.BrokerPartitions.{has_standing_by}
+use Rattle.kr_replication.specs.ListedWalks.{ConcernsOnly}
+use Rattle.kr_configs.specs.inner.NewSettings.{after, has_enough, keeps_minimum}
 use Rattle.kr_configs.specs.NamedKeys.{AreOnce}
 use Rattle.kr_configs.proofs.OperationKeys.{same_text}
 use Rattle.kr_configs.proofs.Overlay.{got_other_key, got_own_key, same_number}
@@ -36,6 +39,17 @@ use Rattle.kr_configs.proofs.Overlay.{got_other_key, got_own_key, same_number}
 module _ (options : Options) (before later : Image) (w : Walked) where
   too_few : has_enough options before later w.topic w.partition ≡ false → relief options before later w ≡ None
   too_few few = ap (λ b. cond (b && has_standing_by w.partition) (Some (emptying w.partition)) None) few
+
+none_stands : (b : Bool) (change : Option PartitionChange) → cond (b && false) change None ≡ None
+none_stands true change = refl
+none_stands false change = refl
+
+-- nothing changes where no replica stands by
+pub relief_concerns : (options : Options) (before later : Image) → ConcernsOnly has_standing_by (relief options before later)
+relief_concerns options before later w formed absent =
+    let enough : Bool = has_enough options before later w.topic w.partition in
+    let change : Option PartitionChange = Some (emptying w.partition) in
+    ap (λ b. cond (enough && b) change None) absent ∙ none_stands enough change
 
 -- ---- the minimum afterwards
 

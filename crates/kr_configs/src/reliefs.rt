@@ -21,7 +21,10 @@ use crate::values::Values;
 use kr_base::NoMemory;
 use kr_calls::ConfigResource;
 use kr_defs::{Ids, MINIMUM_KEY, Options, Partition, PartitionChange, Records, Text, read_minimum};
-use kr_replication::{Change, add_changes, add_changes_of_topic, minimum_at, minimum_of, value_at};
+use kr_replicas::has_standing_by;
+use kr_replication::{
+    Change, add_standing_changes, add_standing_changes_of_topic, minimum_at, minimum_of, value_at,
+};
 use kr_store::{Seen, Store};
 use std::alloc::Global;
 
@@ -154,13 +157,6 @@ fn has_enough<S: Store>(
     Ok(before != after && is_enough(partition, &after))
 }
 
-// A replica stands by.
-fn has_standing_by(partition: &Partition) -> bool
-    ensures { result ≡ later.has_standing_by partition.now }
-{
-    !(partition.eligible.is_empty() && partition.last_known.is_empty())
-}
-
 impl<'r, 'k> Change for Relief<'r, 'k> {
     ghost change = { λ r image w. incremental_alter_configs.relief r.options.now image (after image r.entry.now r.values.now) w };
 
@@ -222,7 +218,7 @@ fn add_topic_reliefs<S: Store>(
     relief.values.are_once();
     match topic_id(seen, &relief.entry.name) {
         Some(id) => {
-            add_changes_of_topic(alloc, seen, relief, &relief.entry.name, id, records)?;
+            add_standing_changes_of_topic(alloc, seen, relief, &relief.entry.name, id, records)?;
             Ok(())
         }
         None => Ok(()),
@@ -244,7 +240,7 @@ fn add_broker_reliefs<S: Store>(
     seen.is_valid();
     relief.values.are_once();
     if relief.entry.name.is_empty() {
-        add_changes(alloc, seen, relief, records)
+        add_standing_changes(alloc, seen, relief, records)
     } else {
         Ok(())
     }
@@ -258,7 +254,8 @@ fn is_of_topic(entry: &ConfigResource) -> bool
 }
 
 /// Adds a change for each partition of a topic whose minimum is another with these values, where enough are in sync for it:
-/// nobody stands by any more. A minimum that stays needs no walk, and a topic's own one only that over its partitions.
+/// nobody stands by any more. A minimum that stays needs no walk, and a topic's own one only that over its partitions. Only partitions are
+/// looked at that a replica stands by of.
 pub(crate) fn add_reliefs<S: Store>(
     alloc: Global,
     seen: &Seen<S>,

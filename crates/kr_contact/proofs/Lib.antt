@@ -1,4 +1,5 @@
 pub mod Blocks
+pub mod Entries
 pub mod Indices
 pub mod Links
 pub mod Operations

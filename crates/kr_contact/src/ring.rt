@@ -6,12 +6,12 @@ ghost use Rattle.kr_defs.specs.Heartbeats.{contacts_without};
 ghost use Rattle.kr_contact.specs.Contacts.{AreSingle, KeepsRoom, is_contact, contact_of, touched, expired_among, may_touch};
 ghost use Rattle.kr_contact.specs.Rings.{AreKnown, contacts_from};
 
+use crate::index::Index;
 use crate::nodes::{self, Node, Place};
-use crate::{index, walk};
+use crate::walk;
 use kr_base::{NoMemory, Steps};
 use kr_defs::{Contact, Contacts, Ids};
 use std::alloc::Global;
-use std::collections::HashMap;
 use std::marker::Model;
 use std::sync::ledger::Ledger;
 
@@ -22,21 +22,20 @@ pub(crate) struct Ring {
     nodes: Vec<Node>,
     first: Place,
     // Which node is a broker's.
-    places: HashMap<i32, Place>,
+    places: Index,
 }
 
 impl Model for Ring {
     ghost use Rattle.std.specs.Prelude.{◌≡◌, ◌-◌, ◌≤◌, map, min, length, vec_len, vec_capacity};
-    ghost use Rattle.std.specs.HashMap.{spare, hash_map_len};
     ghost use Rattle.std.specs.Vec.{vec_ptr};
     ghost use Rattle.kr_contact.specs.Contacts.{ContactsSeen};
     ghost use Rattle.kr_contact.specs.Rings.{IsRing, order_of, contact_at};
 
     ghost Value = { ContactsSeen };
 
-    ghost view = { λ r. record { contacts = map (contact_at r.nodes.items) (order_of r.first.at r.nodes.items (hash_map_len r.places)); spare = min (vec_capacity r.nodes - vec_len r.nodes) (spare r.places) } };
+    ghost view = { λ r. record { contacts = map (contact_at r.nodes.items) (order_of r.first.at r.nodes.items (length r.places.entries)); spare = min (vec_capacity r.nodes - vec_len r.nodes) r.places.spare } };
 
-    ghost invariant = { λ r. (r.first.at ≡ vec_ptr r.nodes) × IsRing r.first.at r.nodes.items r.places.entries (order_of r.first.at r.nodes.items (hash_map_len r.places)) };
+    ghost invariant = { λ r. (r.first.at ≡ vec_ptr r.nodes) × IsRing r.first.at r.nodes.items r.places.entries (order_of r.first.at r.nodes.items (length r.places.entries)) };
 }
 
 impl Ring {
@@ -46,7 +45,7 @@ impl Ring {
         ensures room { IfOk result (λ r. room ≤ r.spare) }
     {
         let capacity = room.checked_add(1).ok_or(NoMemory)?;
-        let places = HashMap::with_capacity(alloc, room)?;
+        let places = Index::with_capacity(alloc, room)?;
         let mut nodes = Vec::with_capacity(alloc, capacity)?;
         let first = nodes::close(&mut nodes);
         Ok(Ring {
@@ -80,11 +79,11 @@ impl Ring {
         ensures again { KeepsRoom self.old self.new contact.now.broker }
         ensures bound { steps.new ≤ steps.old + 9 }
     {
-        match index::place_of(&self.places, &contact.broker) {
+        match self.places.place_of(&contact.broker) {
             Some(place) => nodes::move_last(&mut self.nodes, place, self.first, contact, steps),
             None => {
                 let place = nodes::add_last(&mut self.nodes, self.first, contact, steps);
-                index::put(&mut self.places, &contact.broker, place);
+                self.places.put(&contact.broker, place);
             }
         }
     }
@@ -96,7 +95,7 @@ impl Ring {
         ensures spare { self.old.spare ≤ self.new.spare }
         ensures bound { steps.new ≤ steps.old + 3 }
     {
-        match index::take(&mut self.places, broker) {
+        match self.places.take(broker) {
             Some(place) => {
                 nodes::unlink(&mut self.nodes, place, steps);
                 true
@@ -122,7 +121,7 @@ impl Ring {
     pub(crate) fn contact(&self, broker: &i32) -> Option<Contact>
         ensures { result ≡ contact_of self.now.contacts broker.now }
     {
-        match index::place_of(&self.places, broker) {
+        match self.places.place_of(broker) {
             Some(place) => Some(nodes::contact_in(&nodes::read(&self.nodes, place))),
             None => None,
         }
@@ -148,7 +147,7 @@ impl Ring {
         ensures { result ≡ self.now.spare }
     {
         let nodes = self.nodes.capacity() - self.nodes.len();
-        nodes.min(self.places.capacity() - self.places.len())
+        nodes.min(self.places.spare())
     }
 
     // A copy of the contacts.

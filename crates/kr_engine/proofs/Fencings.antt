@@ -2,17 +2,17 @@
 use Rattle.std.proofs.Common.{◌≡◌, ◌∙◌, sym, subst, ℤ, pos, true, false, cond, ◌+◌, ◌*◌, ◌≤◌, ◌<◌, ℕ, List, [], ◌∷◌, ◌++◌, length, drop, get_or, refl, ap, arith}
 use Rattle.std.proofs.lemmas.List.{drop_more}
 use Rattle.std.proofs.lemmas.Int.{ints}
-use Rattle.std.specs.Prelude.{◌&&◌, ◌==◌, ◌+ℤ◌, ◌-ℤ◌, ◌≤ℤ◌, Option, Some, None, Result, Ok, Err, IsSome, IsTrue, fold, int_lt, is_some, unsigned_abs}
+use Rattle.std.specs.Prelude.{◌&&◌, ◌==◌, ◌+ℤ◌, ◌-ℤ◌, ◌≤ℤ◌, Option, Some, None, Result, Ok, Err, IsSome, IsTrue, OnOk, fold, int_lt, is_some, unsigned_abs}
 use Rattle.std.specs.List.{list_all}
 use Rattle.std.specs.Option.{option_map_or}
 use Rattle.std.specs.Ordering.{int_cmp}
 use Rattle.kr_calls.specs.declared.events.Event.TheVariants as events
+use Rattle.kr_calls.specs.declared.events.Reason.{Reason}
 use Rattle.kr_batch.specs.BatchBytes.{batch_bytes}
 use Rattle.kr_calls.specs.declared.events.Output.TheVariants as given
 use Rattle.kr_calls.specs.Deciding.{apply_records, has_few_targets, is_request, weights}
 use Rattle.kr_calls.specs.TakingOut.{fencing}
 use Rattle.kr_defs.specs.declared.broker.Broker.{Broker}
-use Rattle.kr_defs.specs.declared.ill.Ill.{Ill}
 use Rattle.kr_defs.specs.declared.limits.TheConstants.{PLACES_END}
 use Rattle.kr_defs.specs.declared.options.Options.{Options}
 use Rattle.kr_defs.specs.declared.record.Record.{Record}
@@ -22,8 +22,6 @@ use Rattle.kr_defs.specs.Image.{Image, IsValid}
 use Rattle.kr_defs.specs.ImageLaws.{as_items}
 use Rattle.kr_defs.specs.Map as entries
 use Rattle.kr_defs.proofs.Tests.{both, none_is}
-use Rattle.kr_replication.specs.FencingIndex.{Indexes, KeysOfBrokers}
-use Rattle.kr_replication.proofs.KeptIndexes.{fencing_indexed}
 use Rattle.law_batch_limits.specs.Fitting.{FitsBatch}
 use Rattle.law_batch_limits.proofs.FittingRecords.{records_fit}
 use Rattle.law_safety.proofs.FencingSizes.{fencings_fit}
@@ -31,13 +29,14 @@ use Rattle.law_safety.specs.HearingLaws.{HearsOf}
 use Rattle.kr_store.specs.Images.{AreValid, IsAbove, IsSettled, marked}
 use Rattle.kr_model.specs.declared.writes.Write.{Write}
 use Rattle.kr_engine.proofs.FirstReasons.{none_row}
-use Rattle.kr_engine.specs.inner.Changes.{BreaksOff, counted_core, timed_core}
+use Rattle.kr_engine.specs.inner.Changes.{BreaksOff, counted_core, refused_core, timed_core}
 use Rattle.kr_model.specs.Engine.{Core, IsEngine, IsSound, IsStep, outputs_left}
 use Rattle.kr_model.specs.Entries.{item_entries}
 use Rattle.kr_model.specs.Events.{at_time_of}
 use Rattle.kr_engine.specs.inner.Ready.{IsReady, MayAppend}
 use Rattle.kr_model.specs.Reasons.{exhausted}
-use Rattle.kr_engine.specs.inner.Tick.{CanFence, CanFenceAll, FencesAll, SettlesTick, lapsed_contacts, tick_reason}
+use Rattle.kr_engine.specs.TickBound.{WithinTick}
+use Rattle.kr_engine.specs.inner.Tick.{Advances, CanFence, CanFenceAll, FencesAll, SettlesTick, WithinLapsed, lapsed_contacts, tick_reason}
 use Rattle.kr_model.specs.Tick as worlds
 use Rattle.kr_model.specs.Tick.{fencing_of}
 use Rattle.kr_model.specs.World.{State, is_far, tip_of}
@@ -125,17 +124,19 @@ absent_records options image broker absent = ap (λ (o : Option Broker). option_
 
 pub ruleset fencing_records = (registered_records, absent_records)
 
--- ---- the index
+-- ---- steps
 
--- an index stays true
-abbrev image_or : Image → Result Image Ill → Image
-image_or image (Ok after) = after
-image_or image (Err cause) = image
+pub advances_by : (e behind : Core) (broker : ℤ) (records : List Record) (first last : ℕ) → records ≡ fencing_of e.options e.images.tip broker → last ≡ first + length records
+    → Fences e (record behind { heard = leave e.heard broker }) broker → Advances e behind first last
+advances_by e behind broker records first last is counted f =
+    let tip : behind.tip ≡ e.tip +ℤ pos (length records) = ap (λ (a : Core). a.tip) f.writes.same ∙ ap (λ (rs : List Record). e.tip +ℤ pos (length rs)) (sym is) in
+    omega (arith, ints, tip, counted)
 
-indexed_by : (listed : KeysOfBrokers) (minimum : ℤ) (image after : Image) (broker : ℤ) (o : Option Broker) → IsValid image → entries.get int_cmp image.brokers broker ≡ o
-    → apply_records image (option_map_or (λ (state : Broker). fencing minimum image broker state.epoch) o []) ≡ Ok after → Indexes listed image → Indexes listed after
-indexed_by listed minimum image after broker None valid is meaning index = subst (Indexes listed) (ap (image_or image) meaning) index
-indexed_by listed minimum image after broker (Some state) valid is meaning index = fencing_indexed listed minimum image after broker state valid is meaning index
+pub none_advances : (e : Core) (steps : ℕ) → Advances e e steps steps
+none_advances e steps = refl
+
+pub advances_more : (start at next : Core) (first mid last : ℕ) → Advances start at first mid → Advances at next mid last → Advances start next first last
+advances_more start at next first mid last before after = omega (arith, ints, before, after)
 
 -- ---- all
 
@@ -154,10 +155,6 @@ module _ (e : Core) (brokers : List ℤ) (broker : ℤ) (others : List ℤ) (is 
 
   pub one_open : MayAppend e
   one_open = open_of e (engines_ready.ready e own_can.sound own_can.valid) own_can.leads
-
-  pub then_indexed : (listed : KeysOfBrokers) (between : Core) → Fences e between broker → Indexes listed e.images.tip → Indexes listed between.images.tip
-  then_indexed listed between f index =
-      indexed_by listed e.options.minimum e.images.tip between.images.tip broker (entries.get int_cmp e.images.tip.brokers broker) one_valid.tip refl f.writes.meaning index
 
   then_room : (s : State) (writes : List Write) → IsEngine e s writes → tip_of s + 10000 * length (broker ∷ others) ≤ unsigned_abs PLACES_END
   then_room s writes k = subst (λ t. unsigned_abs t + 10000 * length (broker ∷ others) ≤ unsigned_abs PLACES_END) k.tip own_can.room
@@ -260,14 +257,10 @@ module _ (start at : Core) (brokers : List ℤ) (i : ℕ) (on : FencesOn start a
     pub next_fenced : next.heard ≡ at.heard → AreValid next.images → FencesOn start next brokers others
     next_fenced = one_fenced start at next brokers broker others on_there f
 
-    pub next_indexed : (listed : KeysOfBrokers) → Indexes listed at.images.tip → Indexes listed next.images.tip
-    next_indexed listed index =
-        then_indexed here (broker ∷ others) broker others refl on_there.can listed (record next { heard = leave on_there.heard broker }) (apart at next broker on_there.heard f) index
-
 pub all_fenced : (start at : Core) (brokers : List ℤ) → FencesOn start at brokers [] → FencesAll start (record at { heard = fold leave start.heard brokers }) brokers
 all_fenced start at brokers on = on.all (record at { heard = fold leave start.heard brokers }) (ap (λ h. record at { heard = h }) (sym on.left))
 
-pub ruleset fence_all = (none_fenced, all_fenced)
+pub ruleset fence_all = (none_fenced, all_fenced, none_advances)
 
 -- ---- they leave the contacts
 
@@ -334,6 +327,32 @@ nobody_fenced e (broker ∷ brokers) none = absurd (never (sym (not_none (length
 pub none_lapsed : (e : Core) (lapsed brokers : List ℤ) → lapsed ≡ brokers → true ≡ (length lapsed == 0) → FencesAll e e brokers
 none_lapsed e lapsed brokers is none = subst (FencesAll e e) is (nobody_fenced e lapsed (sym none))
 
-pub ruleset fence_lapsed = (lapsed_fenced, same_breaks, none_lapsed)
+pub none_within : (e : Core) (first last : ℕ) → last ≤ first + length (lapsed_contacts e) + 1 → WithinLapsed e e first last
+none_within e first last looked = omega (arith, ints, looked)
+
+pub all_within : (e between after : Core) (h : hearing.Heartbeats) (first mid last : ℕ) → mid ≤ first + length (lapsed_contacts e) + 1 → Advances e between mid last → after ≡ record between { heard = h } → WithinLapsed e after first last
+all_within e between after h first mid last looked counted left =
+    let tip : after.tip ≡ between.tip = ap (λ (a : Core). a.tip) left in
+    omega (arith, ints, looked, counted, tip)
+
+pub refused_within : (e after : Core) (reason : Reason) (steps : ℕ) → after ≡ refused_core e reason → WithinLapsed e after steps steps
+refused_within e after reason steps is =
+    let tip : after.tip ≡ e.tip = ap (λ (a : Core). a.tip) is in
+    omega (arith, ints, tip)
+
+pub ruleset fence_lapsed = (lapsed_fenced, same_breaks, none_lapsed, none_within, all_within)
+
+ticked_by : {X E : Type 0} (settled : Result X E) (e core left after : Core) (now : ℤ) (first mid last : ℕ) → OnOk settled (WithinLapsed (timed_core e (events.Tick now)) core first mid) → OnOk settled (left ≡ core) → OnOk settled (last ≡ mid)
+    → OnOk settled (after ≡ counted_core left) → OnOk settled (WithinTick e after now first last)
+ticked_by (Ok x) e core left after now first mid last within same still counts =
+    subst (λ (n : ℕ). WithinTick e after now first n) (sym still)
+    (subst (λ (a : Core). WithinTick e a now first mid) (sym counts) (subst (λ (a : Core). WithinTick e (counted_core a) now first mid) (sym same) within))
+ticked_by (Err fault) e core left after now first mid last within same still counts = tt
+
+pub ticked : {X E : Type 0} (result settled : Result X E) (e noted core left after : Core) (now : ℤ) (first mid last : ℕ) → result ≡ settled → noted ≡ timed_core e (events.Tick now) → OnOk settled (WithinLapsed noted core first mid)
+    → OnOk settled (left ≡ core) → OnOk settled (last ≡ mid) → OnOk settled (after ≡ counted_core left) → OnOk result (WithinTick e after now first last)
+ticked {X} {E} result settled e noted core left after now first mid last is begun within same still counts =
+    subst (λ (r : Result X E). OnOk r (WithinTick e after now first last)) (sym is)
+    (ticked_by settled e core left after now first mid last (subst (λ (n : Core). OnOk settled (WithinLapsed n core first mid)) begun within) same still counts)
 
 pub ruleset tick = (can_lapse, ready_in_time)

@@ -6,6 +6,7 @@ ghost use Rattle.kr_model.specs.declared.writes.Write.{Write as AnyWrite};
 ghost use Rattle.kr_model.specs.Engine.{IsEngine, IsSound, IsStep, outputs_left};
 ghost use Rattle.kr_model.specs.Weights.{commit_steps, lost_steps};
 ghost use Rattle.kr_model.specs.World.{State};
+ghost use Rattle.kr_engine.specs.TickBound.{WithinTick};
 
 use crate::Engine;
 use kr_base::{NoMemory, Steps};
@@ -25,6 +26,7 @@ impl Engine {
         ensures lost { (epoch : ℤ) → event.now ≡ events.Lost epoch → IsOk result }
         ensures commit_bound { (epoch end : ℤ) (s : State) (writes : List AnyWrite) → event.now ≡ events.Commit epoch end → IsEngine self.old s writes → steps.new ≤ steps.old + commit_steps s end }
         ensures lost_bound { (epoch : ℤ) (s : State) (writes : List AnyWrite) → event.now ≡ events.Lost epoch → IsEngine self.old s writes → steps.new ≤ steps.old + lost_steps s }
+        ensures tick_bound { (now : ℤ) → event.now ≡ events.Tick now → OnOk result (WithinTick self.old self.new now steps.old steps.new) }
         ensures later { steps.old ≤ steps.new }
     {
         match event {

@@ -1,6 +1,6 @@
 //! Time goes on.
 
-ghost use Rattle.std.specs.Prelude.{◌≡◌, ◌≤◌, ◌+◌, ◌≤ℤ◌, ◌-ℤ◌, ◌&&◌, [], pos, fold, is_some, None, Some, Ok, IfOk, OnOk, OnErr, IsSome};
+ghost use Rattle.std.specs.Prelude.{◌≡◌, ◌≤◌, ◌+◌, ◌≤ℤ◌, ◌-ℤ◌, ◌&&◌, [], pos, fold, is_some, length, None, Some, Ok, IfOk, OnOk, OnErr, IsSome};
 ghost use Rattle.std.specs.Ordering.{int_cmp};
 ghost use Rattle.kr_defs.specs.declared.limits.TheConstants.{PLACES_END as places_end};
 ghost use Rattle.kr_defs.specs.Heartbeats.{AreHeartbeats, leave};
@@ -8,10 +8,10 @@ ghost use Rattle.kr_defs.specs.Map as entries;
 ghost use Rattle.kr_calls.specs.declared.events.Event.TheVariants as events;
 ghost use Rattle.kr_calls.specs.Deciding.{apply_records, weights};
 ghost use Rattle.kr_store.specs.Images.{AreValid, IsSettled, last_kept};
-ghost use Rattle.kr_replication.specs.FencingIndex.{Indexes};
 ghost use Rattle.kr_model.specs.Engine.{IsSound, IsStep, outputs_left};
 ghost use Rattle.kr_engine.specs.inner.Ready.{IsReady, MayAppend};
-ghost use Rattle.kr_engine.specs.inner.Tick.{lapsed_contacts, tick_reason, CanFenceAll, FencesAll, SettlesTick};
+ghost use Rattle.kr_engine.specs.inner.Tick.{lapsed_contacts, tick_reason, Advances, CanFenceAll, FencesAll, SettlesTick, WithinLapsed};
+ghost use Rattle.kr_engine.specs.TickBound.{WithinTick};
 ghost use Rattle.kr_model.specs.Tick.{fencing_of};
 ghost use Rattle.kr_engine.specs.inner.Append.{Fences};
 ghost use Rattle.kr_engine.specs.inner.Changes.{BreaksOff};
@@ -24,7 +24,6 @@ use kr_base::{NoMemory, Steps};
 use kr_calls::{Effect, Reason, Reply};
 use kr_defs::{Ids, Records};
 use kr_image::ImageStore;
-use kr_replication::FencingIndex;
 use kr_sessions::Context;
 use kr_store::{Seen, Store};
 use std::alloc::Global;
@@ -53,10 +52,8 @@ fn fencing_of<L: Ledger>(
     store: &mut ImageStore,
     context: &Context,
     broker: &i32,
-    index: &FencingIndex,
     steps: &mut Steps<L>,
 ) -> Result<Records, NoMemory>
-    requires indexed { Indexes index.now store.old.tip }
     requires natural { pos 0 ≤ℤ context.now.place }
     requires low { context.now.place ≤ℤ places_end }
     requires kept { last_kept store.old ≡ Some (context.now.place, store.old.tip) }
@@ -67,13 +64,14 @@ fn fencing_of<L: Ledger>(
     ensures calls { store.new.kept_made ≡ store.old.kept_made }
     ensures begins { store.new.kept_begun ≡ store.old.kept_begun }
     ensures settled { IsSettled store.old → IsSettled store.new }
+    ensures counted { IfOk result (λ records. steps.new ≡ steps.old + length records) }
     ensures later { steps.old ≤ steps.new }
 {
     if !is_registered(&Seen::tip(store), broker) {
         return Ok(Records::new(alloc));
     }
     let mut out = no_effect(alloc);
-    kr_brokers::fence_by(alloc, store, context, broker, index, &mut out, steps)?;
+    kr_brokers::fence(alloc, store, context, broker, &mut out, steps)?;
     Ok(out.records)
 }
 
@@ -95,11 +93,9 @@ impl Engine {
     fn fencing_records<L: Ledger>(
         &mut self,
         broker: &i32,
-        index: &FencingIndex,
         steps: &mut Steps<L>,
     ) -> Result<Records, NoMemory>
         requires open { MayAppend self.old }
-        requires indexed { Indexes index.now self.old.images.tip }
         ensures records { IfOk result (λ records. records ≡ fencing_of self.old.options self.old.images.tip broker.now) }
         ensures image { IfOk result (λ records. apply_records self.old.images.tip records ≡ Ok self.new.images.tip) }
         ensures kept { self.new.images.kept ≡ self.old.images.kept }
@@ -108,31 +104,27 @@ impl Engine {
         ensures begins { self.new.images.kept_begun ≡ self.old.images.kept_begun }
         ensures settled { IsSettled self.old.images → IsSettled self.new.images }
         ensures same { self.new ≡ record self.old { images = self.new.images } }
+        ensures counted { IfOk result (λ records. steps.new ≡ steps.old + length records) }
         ensures later { steps.old ≤ steps.new }
     {
         let context = context_of(&self.options, &self.sessions, &self.time, &self.tip);
-        fencing_of(self.alloc, &mut self.store, &context, broker, index, steps)
+        fencing_of(self.alloc, &mut self.store, &context, broker, steps)
     }
 
     // The broker is fenced by one batch. It stays a contact, so that nothing is to be put back where memory is wanted.
     #[tactic(auto, using(crate::proofs::Fencings::fence))]
-    fn fence<L: Ledger>(
-        &mut self,
-        broker: &i32,
-        index: &FencingIndex,
-        steps: &mut Steps<L>,
-    ) -> Result<(), NoMemory>
+    fn fence<L: Ledger>(&mut self, broker: &i32, steps: &mut Steps<L>) -> Result<(), NoMemory>
         requires open { MayAppend self.old }
-        requires indexed { Indexes index.now self.old.images.tip }
         requires valid { AreValid self.old.images }
         ensures fences { OnOk result (Fences self.old
             (record self.new { heard = leave self.old.heard broker.now }) broker.now) }
         ensures heard { OnOk result (self.new.heard ≡ self.old.heard) }
         ensures broken { OnErr result (BreaksOff self.old self.new) }
         ensures valid { OnOk result (AreValid self.new.images) }
+        ensures counted { OnOk result (Advances self.old self.new steps.old steps.new) }
         ensures later { steps.old ≤ steps.new }
     {
-        let records = self.fencing_records(broker, index, steps)?;
+        let records = self.fencing_records(broker, steps)?;
         self.append(records)?;
         self.look_at_images();
         Ok(())
@@ -143,19 +135,18 @@ impl Engine {
     fn fence_all<L: Ledger>(
         &mut self,
         brokers: &[i32],
-        index: &FencingIndex,
         steps: &mut Steps<L>,
     ) -> Result<(), NoMemory>
-        requires indexed { Indexes index.now self.old.images.tip }
         requires can { CanFenceAll self.old brokers.now }
         ensures all { OnOk result (FencesAll self.old
             (record self.new { heard = fold leave self.old.heard brokers.now }) brokers.now) }
         ensures heard { OnOk result (self.new.heard ≡ self.old.heard) }
         ensures broken { OnErr result (BreaksOff self.old self.new) }
+        ensures counted { OnOk result (Advances self.old self.new steps.old steps.new) }
         ensures later { steps.old ≤ steps.new }
     {
         for broker in brokers {
-            self.fence(broker, index, steps)?;
+            self.fence(broker, steps)?;
         }
         Ok(())
     }
@@ -180,6 +171,7 @@ impl Engine {
     fn lapsed_contacts<L: Ledger>(&self, steps: &mut Steps<L>) -> Result<Ids, NoMemory>
         requires ready { IsReady self.now }
         ensures ids { IfOk result (λ ids. ids ≡ lapsed_contacts self.now) }
+        ensures bound { steps.new ≤ steps.old + length (lapsed_contacts self.now) + 1 }
         ensures later { steps.old ≤ steps.new }
     {
         let limit = session_limit(&self.time, &self.options.session_ms);
@@ -196,36 +188,31 @@ impl Engine {
         None
     }
 
-    // The partitions that each of the brokers has a replica of.
-    fn index_of(&self, brokers: &[i32]) -> Result<FencingIndex, NoMemory>
-        ensures { IfOk result (λ index. Indexes index self.now.images.tip) }
-    {
-        FencingIndex::of(self.alloc, &Seen::tip(&self.store), brokers)
-    }
-
     #[tactic(auto, using(crate::proofs::Fencings::fence_lapsed))]
     fn fence_lapsed<L: Ledger>(&mut self, steps: &mut Steps<L>) -> Result<(), NoMemory>
         requires ready { IsReady self.old }
         requires can { CanFenceAll self.old (lapsed_contacts self.old) }
         ensures fences { OnOk result (FencesAll self.old self.new (lapsed_contacts self.old)) }
         ensures broken { OnErr result (BreaksOff self.old self.new) }
+        ensures bound { OnOk result (WithinLapsed self.old self.new steps.old steps.new) }
         ensures later { steps.old ≤ steps.new }
     {
         let lapsed = self.lapsed_contacts(steps)?;
         if lapsed.is_empty() {
             return Ok(());
         }
-        let index = self.index_of(lapsed.as_slice())?;
-        self.fence_all(lapsed.as_slice(), &index, steps)?;
+        self.fence_all(lapsed.as_slice(), steps)?;
         self.forget_contacts(lapsed.as_slice());
         Ok(())
     }
 
+    #[tactic(auto, using(crate::proofs::Fencings::refused_within))]
     fn settle_tick<L: Ledger>(&mut self, steps: &mut Steps<L>) -> Result<(), NoMemory>
         requires ready { IsReady self.old }
         requires can { tick_reason self.old ≡ None → CanFenceAll self.old (lapsed_contacts self.old) }
         ensures settled { OnOk result (SettlesTick self.old self.new (tick_reason self.old)) }
         ensures broken { OnErr result (BreaksOff self.old self.new) }
+        ensures bound { OnOk result (WithinLapsed self.old self.new steps.old steps.new) }
         ensures later { steps.old ≤ steps.new }
     {
         match self.tick_reason() {
@@ -238,7 +225,8 @@ impl Engine {
     }
 
     /// Time went on: a leading controller fences the contacts whose session has ended, the one first that was heard of
-    /// longest ago. All outputs are handed out before. After want of memory nothing has changed.
+    /// longest ago. All outputs are handed out before. It takes a step for each of these contacts, one more, and one for each
+    /// record that it gives. After want of memory nothing has changed.
     #[tactic(auto, using(crate::proofs::Fencings::tick))]
     pub fn tick<L: Ledger>(&mut self, now: &i64, steps: &mut Steps<L>) -> Result<(), NoMemory>
         requires sound { IsSound self.old }
@@ -246,6 +234,7 @@ impl Engine {
         ensures step { OnOk result (IsStep self.old self.new (events.Tick now.now)) }
         ensures unchanged { OnErr result (self.new ≡ self.old) }
         ensures sound { IsSound self.new }
+        ensures bound { OnOk result (WithinTick self.old self.new now.now steps.old steps.new) }
         ensures later { steps.old ≤ steps.new }
     {
         self.look_over();

@@ -80,6 +80,7 @@ impl Engine {
     )
         ensures ok { OnOk settled.now (self.new ≡ self.old) }
         ensures err { OnErr settled.now (self.new ≡ record self.old { images = unwrap_or (reverted self.old.images found.now.tip) self.old.images; tip = found.now.tip }) }
+        ensures still { OnOk settled.now (steps.new ≡ steps.old) }
         ensures later { steps.old ≤ steps.new }
     {
         if settled.is_err() {

@@ -13,7 +13,7 @@ use Rattle.kr_defs.specs.KeptMaps.{Kept, oldest_unmade}
 use Rattle.kr_defs.specs.Map as entries
 use Rattle.kr_image.specs.Timelines.{map_in}
 
-same_epoch : (x : ℤ) → int_eq x x ≡ true
+pub same_epoch : (x : ℤ) → int_eq x x ≡ true
 same_epoch x = (Decides-int_eq x x).1 refl
 
 -- no epoch is another that is above it

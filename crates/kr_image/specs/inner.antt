@@ -1,3 +1,4 @@
+pub mod PartitionKeys
 pub mod Roles
 pub mod RecordAnswers
 pub mod TimelineMaps

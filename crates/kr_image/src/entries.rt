@@ -1,6 +1,6 @@
 //! One entry of a timeline is set or goes.
 
-ghost use Rattle.std.specs.Prelude.{◌≡◌, ◌≤◌, ◌<◌, ◌+◌, ◌^◌, OnOk, IfOk, length, nat_le, slice_get};
+ghost use Rattle.std.specs.Prelude.{◌≡◌, ◌≤◌, ◌<◌, ◌+◌, ◌^◌, OnErr, OnOk, IfOk, length, nat_le, slice_get};
 ghost use Rattle.std.specs.BTreeMap.Range.{IsLtBy, entries_between};
 ghost use Rattle.std.specs.Option.{option_map};
 ghost use Rattle.std.specs.declared.ops.Bound.TheVariants.{Excluded};
@@ -52,6 +52,7 @@ pub(crate) fn set<K: Key + Drop, V: Drop>(
     ensures present { OnOk result (timeline.new.maps.present ≡ map.insert K.cmp timeline.old.maps.present key value) }
     ensures kept { timeline.new.maps.kept ≡ timeline.old.maps.kept }
     ensures made { OnOk result (timeline.new.maps.made ≤ timeline.old.maps.made + 1) }
+    ensures err { OnErr result (timeline.new.maps.present ≡ timeline.old.maps.present) }
 {
     timeline.insert(key, value)
 }
@@ -66,6 +67,7 @@ pub(crate) fn unset<K: Key + Drop, V: Drop>(
     ensures present { OnOk result (timeline.new.maps.present ≡ map.remove K.cmp timeline.old.maps.present key.now) }
     ensures kept { timeline.new.maps.kept ≡ timeline.old.maps.kept }
     ensures made { OnOk result (timeline.new.maps.made ≤ timeline.old.maps.made + 1) }
+    ensures err { OnErr result (timeline.new.maps.present ≡ timeline.old.maps.present) }
 {
     let key = Copied::copied(key, alloc)?;
     timeline.remove(key)?;
@@ -86,6 +88,7 @@ pub(crate) fn set_counted<K: Key + Drop, V: Drop>(
     ensures present { OnOk result (timeline.new.maps.present ≡ map.insert K.cmp timeline.old.maps.present key value) }
     ensures kept { timeline.new.maps.kept ≡ timeline.old.maps.kept }
     ensures made { OnOk result (timeline.new.maps.made ≤ timeline.old.maps.made + 1) }
+    ensures err { OnErr result (timeline.new.maps.present ≡ timeline.old.maps.present) }
     ensures counted { OnOk result (count.new ≡ length timeline.new.maps.present) }
 {
     let is_there = contains(timeline, &key);
@@ -108,6 +111,7 @@ pub(crate) fn unset_counted<K: Key + Drop, V: Drop>(
     ensures present { OnOk result (timeline.new.maps.present ≡ map.remove K.cmp timeline.old.maps.present key.now) }
     ensures kept { timeline.new.maps.kept ≡ timeline.old.maps.kept }
     ensures made { OnOk result (timeline.new.maps.made ≤ timeline.old.maps.made + 1) }
+    ensures err { OnErr result (timeline.new.maps.present ≡ timeline.old.maps.present) }
     ensures counted { OnOk result (count.new ≡ length timeline.new.maps.present) }
 {
     let is_there = contains(timeline, key);

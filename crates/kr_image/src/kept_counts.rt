@@ -18,16 +18,42 @@ pub(crate) struct KeptCounts {
     pub counts: Counts,
     /// The epoch at which the transaction began that was open then.
     pub begun: Option<i64>,
+    /// The steps of walks over the partitions of this image and of those before it, as a sum that wraps.
+    pub walks: u64,
 }
 
-/// The epoch with its counts and the open transaction.
-pub(crate) fn kept_under(epoch: &i64, counts: Counts, begun: &Option<i64>) -> KeptCounts
-    ensures { result ≡ record { epoch = epoch.now; counts = counts; begun = begun.now } }
+// The steps of a walk over the partitions of one image.
+fn walk_of(counts: &Counts) -> u64 {
+    u64::from(counts.partitions) + 1
+}
+
+/// The steps of walks over the partitions of all images up to one with these counts, as a sum that wraps.
+pub(crate) fn walks_up_to(kept: &VecDeque<KeptCounts>, counts: &Counts) -> u64 {
+    match kept.back() {
+        Some(last) => last.walks.wrapping_add(walk_of(counts)),
+        None => walk_of(counts),
+    }
+}
+
+/// The steps of walks over the partitions of the kept images and of one with these counts.
+pub(crate) fn walks_over(kept: &VecDeque<KeptCounts>, counts: &Counts) -> u64 {
+    match kept.front() {
+        Some(first) => walks_up_to(kept, counts)
+            .wrapping_sub(first.walks)
+            .wrapping_add(walk_of(&first.counts)),
+        None => walk_of(counts),
+    }
+}
+
+/// The epoch with its counts, the open transaction, and the steps of walks.
+pub(crate) fn kept_under(epoch: &i64, counts: Counts, begun: &Option<i64>, walks: u64) -> KeptCounts
+    ensures { result ≡ record { epoch = epoch.now; counts = counts; begun = begun.now; walks = walks } }
 {
     KeptCounts {
         epoch: *epoch,
         counts,
         begun: *begun,
+        walks,
     }
 }
 

@@ -10,13 +10,13 @@ ghost use Rattle.kr_image.specs.inner.RecordAnswers.{Changes};
 ghost use Rattle.kr_image.specs.inner.TopicKeys.{partitions_end};
 ghost use Rattle.kr_image.specs.Timelines.{Agrees, keeps_of, made_of, present_image};
 
-use crate::entries::{contains, is_full, key_between, set_counted, unset_counted};
+use crate::entries::{contains, is_full, key_between};
+use crate::partition_timeline::PartitionTimeline;
 use crate::timelines::{ChangeFault, Timelines};
 use kr_base::NoMemory;
 use kr_change::merge;
 use kr_defs::limits::{LAST_INDEX, MOST_PARTITIONS};
 use kr_defs::{Copied, Ill, Partition, PartitionChange, is_well_formed};
-use kr_timeline::Timeline;
 use std::alloc::Global;
 
 fn is_index(index: &i32) -> bool
@@ -40,12 +40,8 @@ impl Timelines {
         ensures kept { keeps_of self.new ≡ keeps_of self.old }
         ensures made { OnOk result (made_of self.new ≤ made_of self.old + 1) }
     {
-        set_counted(
-            &mut self.partitions,
-            &mut self.counts.partitions,
-            key,
-            state,
-        )?;
+        self.partitions
+            .set_counted(self.alloc, &mut self.counts.partitions, key, state)?;
         Ok(())
     }
 
@@ -70,7 +66,7 @@ impl Timelines {
             return Err(ChangeFault::IllFormed(Ill::BadNumber));
         }
         let key = key_of(topic, index);
-        if contains(&self.partitions, &key) {
+        if contains(self.partitions.timeline(), &key) {
             return Err(ChangeFault::IllFormed(Ill::PartitionExists));
         }
         if !is_well_formed(state) {
@@ -101,7 +97,7 @@ impl Timelines {
             return Err(ChangeFault::IllFormed(Ill::NoTopic));
         }
         let key = key_of(topic, index);
-        let Some(old) = self.partitions.get(&key) else {
+        let Some(old) = self.partitions.timeline().get(&key) else {
             return Err(ChangeFault::IllFormed(Ill::NoPartition));
         };
         let state = merge(self.alloc, old, change)?;
@@ -123,7 +119,7 @@ fn end_of(topic: &u128) -> (u128, i32)
 /// Takes out the topic's partitions, one by one. Each is looked for behind the one before, and none behind the topic's last.
 pub(crate) fn remove_partitions(
     alloc: Global,
-    partitions: &mut Timeline<(u128, i32), Partition>,
+    partitions: &mut PartitionTimeline,
     count: &mut u32,
     topic: &u128,
 ) -> Result<(), NoMemory>
@@ -137,8 +133,8 @@ pub(crate) fn remove_partitions(
 {
     let mut after = key_of(topic, &-1); // below them all
     let end = end_of(topic);
-    while let Some(key) = key_between(alloc, partitions, &after, &end)? {
-        unset_counted(alloc, partitions, count, &key)?;
+    while let Some(key) = key_between(alloc, partitions.timeline(), &after, &end)? {
+        partitions.unset_counted(alloc, count, &key)?;
         after = key;
     }
     Ok(())

@@ -6,7 +6,9 @@ ghost use Rattle.kr_store.specs.Images.{AreBegunFrom, ForgetsWithin, IsAbove, Re
 ghost use Rattle.kr_image.specs.Timelines.{all_above, keeps_of, made_of, present_image};
 ghost use Rattle.kr_image.specs.KeptImages.{HaveBegins, IsKept, IsStoreWith, images_of};
 
-use crate::kept_counts::{KeptCounts, begun_at, counts_at, keep_from, keep_up_to, kept_under};
+use crate::kept_counts::{
+    KeptCounts, begun_at, counts_at, keep_from, keep_up_to, kept_under, walks_up_to,
+};
 use crate::timelines::Timelines;
 use kr_base::{NoEpoch, NoMemory, Steps};
 use kr_store::{At, Counts};
@@ -30,7 +32,8 @@ pub(crate) fn mark(
 {
     timelines.reserve()?;
     let counts = timelines.counts;
-    kept.push_back(kept_under(epoch, counts, begun))?;
+    let walks = walks_up_to(kept, &counts);
+    kept.push_back(kept_under(epoch, counts, begun, walks))?;
     timelines.mark(epoch);
     Ok(())
 }
@@ -66,8 +69,8 @@ pub(crate) fn revert<L: Ledger>(
     Ok(())
 }
 
-/// Drops the kept epochs below this one.
-pub(crate) fn forget_below<L: Ledger>(
+// Drops the kept epochs below this one, and leaves the index of partitions.
+fn drop_below<L: Ledger>(
     timelines: &mut Timelines,
     kept: &mut VecDeque<KeptCounts>,
     begun: &Option<i64>,
@@ -86,6 +89,28 @@ pub(crate) fn forget_below<L: Ledger>(
 {
     timelines.forget_below(epoch, steps);
     keep_from(kept, epoch, steps);
+}
+
+/// Drops the kept epochs below this one.
+pub(crate) fn forget_below<L: Ledger>(
+    timelines: &mut Timelines,
+    kept: &mut VecDeque<KeptCounts>,
+    begun: &Option<i64>,
+    epoch: &i64,
+    steps: &mut Steps<L>,
+)
+    requires store { IsStoreWith timelines.old kept.old.items begun.now }
+    requires from { AreBegunFrom
+        (images_of timelines.old kept.old.items begun.now) epoch.now }
+    ensures store { IsStoreWith timelines.new kept.new.items begun.now }
+    ensures images { images_of timelines.new kept.new.items begun.now ≡
+        forgotten (images_of timelines.old kept.old.items begun.now) epoch.now }
+    ensures counted { steps.old ≤ steps.new }
+    ensures bound { ForgetsWithin
+        (images_of timelines.old kept.old.items begun.now) epoch.now steps.old steps.new }
+{
+    drop_below(timelines, kept, begun, epoch, steps);
+    timelines.renew_index(kept);
 }
 
 /// Makes the state of the last kept epoch the present one, whatever the present maps are.

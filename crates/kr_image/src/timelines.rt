@@ -2,8 +2,9 @@
 
 ghost use Rattle.std.specs.Prelude.{◌≡◌};
 
+use crate::partition_timeline::PartitionTimeline;
 use kr_base::NoMemory;
-use kr_defs::{Broker, ConfigKey, Ill, Partition, Text, Topic};
+use kr_defs::{Broker, ConfigKey, Ill, Text, Topic};
 use kr_store::Counts;
 use kr_timeline::Timeline;
 use std::alloc::{AllocError, Global};
@@ -42,7 +43,7 @@ pub(crate) struct Timelines {
     pub brokers: Timeline<i32, Broker>,
     pub names: Timeline<Text, u128>,
     pub topics: Timeline<u128, Topic>,
-    pub partitions: Timeline<(u128, i32), Partition>,
+    pub partitions: PartitionTimeline,
     pub configs: Timeline<ConfigKey, Text>,
     pub features: Timeline<Text, i16>,
     pub counts: Counts,

@@ -1,9 +1,7 @@
 pub mod AgreeingNames
 pub mod BrokerIds
-pub mod Changes
 pub mod Counts
 pub mod EntryTests
-pub mod Indexes
-pub mod KeptIndexes
-pub mod KeyLists
-pub mod NamedChanges
+pub mod LedPartitions
+pub mod ListedWalks
+pub mod Supersets

@@ -1,5 +1,3 @@
 pub mod AgreeingNames
 pub mod BrokerIds
-pub mod FencingIndex
-pub mod FencingLaws
-pub mod Leaving
+pub mod ListedWalks

@@ -86,10 +86,3 @@ impl BrokerTest for ActiveOthers {
         is_active(state) && self.broker != *id
     }
 }
-
-/// The active brokers, by id.
-pub fn active<S: Store>(alloc: Global, seen: &Seen<S>) -> Result<Ids, NoMemory>
-    ensures { IfOk result (λ ids. ids ≡ brokers.active seen.now) }
-{
-    brokers_where(alloc, seen, &ActiveOnes)
-}

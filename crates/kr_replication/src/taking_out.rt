@@ -6,8 +6,9 @@ ghost use Rattle.kr_defs.specs.Ids.{without};
 ghost use Rattle.kr_defs.specs.declared.record.Record.TheVariants as kinds;
 ghost use Rattle.kr_calls.specs.TakingOut as taking;
 
+use crate::changes::Change;
 use crate::electing::build_without;
-use crate::partitions::{Change, add_changes};
+use crate::listed_walks::add_changes_of_broker;
 use kr_base::NoMemory;
 use kr_defs::{Copied, Ids, Mode, Partition, PartitionChange, Record, Records, Text, Want};
 use kr_store::{Seen, Store};
@@ -92,9 +93,9 @@ fn without_broker(
     })
 }
 
-/// The change that takes a broker out of a partition, as restarted where it has restarted uncleanly. `minimum` is that of the
-/// options.
-pub fn leaving_change<S: Store>(
+// The change that takes a broker out of a partition, as restarted where it has restarted uncleanly. `minimum` is that of the
+// options.
+fn leaving_change<S: Store>(
     alloc: Global,
     seen: &Seen<S>,
     minimum: &i32,
@@ -152,11 +153,11 @@ pub fn take_out<S: Store>(
     ensures { OnOk result (records.new ≡ records.old ++ taking.taken_out minimum.now seen.now broker.now restarted) }
 {
     let rule = leaver_of(minimum, broker, restarted);
-    add_changes(alloc, seen, &rule, records)
+    add_changes_of_broker(alloc, seen, &rule, broker, records)
 }
 
 // The record that fences a broker of this epoch.
-pub(crate) fn fence_record(broker: &i32, epoch: &i64) -> Record
+fn fence_record(broker: &i32, epoch: &i64) -> Record
     ensures { result ≡ kinds.BrokerRegistrationChange broker.now epoch.now (pos 1) (pos 0) }
 {
     Record::BrokerRegistrationChange {
@@ -167,15 +168,16 @@ pub(crate) fn fence_record(broker: &i32, epoch: &i64) -> Record
     }
 }
 
-// The records that fence a broker of this epoch, by a walk over all partitions.
-pub(crate) fn walked_fencing<S: Store>(
+/// The records that fence a broker of this epoch.
+pub fn fencing_records<S: Store>(
     alloc: Global,
     seen: &Seen<S>,
     minimum: &i32,
     broker: &i32,
     epoch: &i64,
 ) -> Result<Records, NoMemory>
-    ensures { IfOk result (λ records. records ≡ taking.fencing minimum.now seen.now broker.now epoch.now) }
+    ensures { IfOk result (λ records. records ≡
+        taking.fencing minimum.now seen.now broker.now epoch.now) }
 {
     let mut records = Records::new(alloc);
     records.push(fence_record(broker, epoch))?;

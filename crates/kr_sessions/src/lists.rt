@@ -1,8 +1,7 @@
 //! Single looks at the two lists.
 
-ghost use Rattle.std.specs.Prelude.{◌≡◌, ◌+◌, ◌+ℤ◌, ◌<◌, pos, map, find, int_lt, vec_capacity, vec_len, ◌≤◌, IsTrue, IfOk, ◌&&◌, ◌++◌, option_to_list};
-ghost use Rattle.std.specs.Int.{int_min};
-ghost use Rattle.std.specs.List.{filter_map, list_any, reduce};
+ghost use Rattle.std.specs.Prelude.{◌≡◌, ◌+◌, ◌+ℤ◌, ◌<◌, pos, map, find, int_lt, vec_capacity, vec_len, ◌≤◌, IsTrue, IfOk, ◌&&◌};
+ghost use Rattle.std.specs.List.{list_any};
 ghost use Rattle.std.specs.Option.{option_map};
 ghost use Rattle.std.specs.Ordering.{int_eq};
 ghost use Rattle.kr_contact.specs.Contacts.{touched};
@@ -116,27 +115,4 @@ pub(crate) fn stopped_at(stopping: &[Stopping], broker: &i32) -> Option<i64>
 {
     let stopping = stopping.iter().find(|stopping| stopping.broker == *broker)?;
     Some(stopping.tip)
-}
-
-// The lesser of the two, where there are two.
-fn lower_of(lowest: Option<i64>, offset: Option<i64>) -> Option<i64>
-    ensures { result ≡ reduce int_min (option_to_list lowest ++ option_to_list offset) }
-{
-    match (lowest, offset) {
-        (Some(lowest), Some(offset)) => Some(lowest.min(offset)),
-        (None, offset) => offset,
-        (lowest, None) => lowest,
-    }
-}
-
-// The least offset of those of the brokers that are contacts.
-#[tactic(auto, using(crate::proofs::LeastNumbers::lowest))]
-pub(crate) fn lowest_offset(contacts: &ContactList, brokers: &[i32]) -> Option<i64>
-    ensures { result ≡ reduce int_min (filter_map (λ broker. option_map (λ c. c.offset) (find (λ c. int_eq c.broker broker) contacts.now.contacts)) brokers.now) }
-{
-    let mut lowest = None;
-    for broker in brokers {
-        lowest = lower_of(lowest, offset_of(contacts, broker));
-    }
-    lowest
 }

@@ -2,7 +2,7 @@
 
 ghost use Rattle.std.specs.Prelude.{◌≡◌, ◌==◌, ◌+◌, ◌≤◌, false, length, IfOk, OnOk, OnErr, IsTrue};
 ghost use Rattle.kr_defs.specs.Ids.{has, is_distinct, is_within};
-ghost use Rattle.kr_defs.specs.Heartbeats.{AreHeartbeats, contact_brokers, stopping_brokers, is_not_before, begin, beat, leave, stop, end, valid, lowest_offset, stopped_at, expired};
+ghost use Rattle.kr_defs.specs.Heartbeats.{AreHeartbeats, contact_brokers, stopping_brokers, is_not_before, begin, beat, leave, stop, end, valid, offset_of, stopped_at, expired};
 ghost use Rattle.kr_sessions.specs.Sessions.{may_beat};
 
 use crate::lists;
@@ -168,11 +168,11 @@ impl Sessions {
         lists::is_valid(&self.contacts, &broker, &now, &session_ms)
     }
 
-    /// The least offset of those of the brokers that are contacts.
-    pub fn lowest_offset(&self, active: &Ids) -> Option<i64>
-        ensures { result ≡ lowest_offset self.now.heartbeats active.now }
+    /// The offset that the broker reported last, where it is a contact.
+    pub fn offset_of(&self, broker: i32) -> Option<i64>
+        ensures { result ≡ offset_of self.now.heartbeats broker }
     {
-        lists::lowest_offset(&self.contacts, active.as_slice())
+        lists::offset_of(&self.contacts, &broker)
     }
 
     /// The brokers that were heard of at the limit or before, the longest ago first. A step is one contact that is looked at.

@@ -8,6 +8,7 @@ ghost use Rattle.kr_defs.specs.Lookups.{entry_copied};
 ghost use Rattle.kr_defs.specs.Map as entries;
 ghost use Rattle.kr_defs.specs.Map.{config_order, partition_order, text_order};
 ghost use Rattle.kr_defs.specs.Walk.{rest_of_topic};
+ghost use Rattle.kr_replicas.specs.BrokerPartitions.{AreAtLeast, has_replica, has_standing_by, keys_or_none};
 ghost use Rattle.kr_store.specs.Images.{counts_of, image_of_place, last_image, last_kept, topic_under, topic_with};
 ghost use Rattle.kr_store.specs.declared.places.At.TheVariants as places;
 
@@ -15,6 +16,7 @@ use crate::{At, Counts, Store};
 use kr_base::NoEpoch;
 use kr_defs::laws::empty_is_valid;
 use kr_defs::{Broker, ConfigKey, Partition, Text, Topic};
+use kr_replicas::PartitionKeys;
 use std::marker::Model;
 
 /// An image of a store: the present one, or that of a kept epoch. As its place is there, each look-up and each walk has an
@@ -115,6 +117,23 @@ impl<'a, S: Store> Seen<'a, S> {
     {
         let store = self.store;
         store.partition(self.at, *id, *index).unwrap()
+    }
+
+    /// Keys of partitions: at least of those that have the broker as a replica. Where there is none, no partition has it.
+    pub fn keys_of(&self, broker: &i32) -> Option<&'a PartitionKeys>
+        ensures { AreAtLeast (keys_or_none (option_copied result)) (has_replica broker.now)
+            self.now.partitions }
+    {
+        let store = self.store;
+        store.keys_of(broker)
+    }
+
+    /// Keys of partitions: at least of those that a replica stands by of.
+    pub fn standing_keys(&self) -> &'a PartitionKeys
+        ensures { AreAtLeast result.now has_standing_by self.now.partitions }
+    {
+        let store = self.store;
+        store.standing_keys()
     }
 
     /// The value of a setting.

@@ -8,12 +8,15 @@ ghost use Rattle.kr_defs.specs.Lookups.{Finds, FindsEntry};
 ghost use Rattle.kr_defs.specs.Map as entries;
 ghost use Rattle.kr_defs.specs.Map.{text_order, partition_order, config_order};
 ghost use Rattle.kr_defs.specs.Weight.{weight};
+ghost use Rattle.kr_replicas.specs.BrokerPartitions.{has_replica, has_standing_by, keys_or_none};
 ghost use Rattle.kr_store.specs.ItemAnswers.{Applies, AppliesAt, MayStand, Ticks, made_at};
 ghost use Rattle.kr_store.specs.Images.{Images, AreValid, image_of_place, brokers_at, topics_at, partitions_at, configs_at, features_at, topic_under, topic_with, next_topic, last_kept, last_image, last_begun, counts_of};
+ghost use Rattle.kr_store.specs.Reads.{AreAtLeastEverywhere};
 
 use crate::{ApplyFault, At, Counts};
 use kr_base::{NoEpoch, Steps};
 use kr_defs::{Broker, ConfigKey, Item, Partition, Record, Text, Topic};
+use kr_replicas::PartitionKeys;
 use std::sync::ledger::Ledger;
 
 /// An image that items are applied to, with kept epochs. A look-up answers by the image at a place, and NoEpoch exactly
@@ -51,6 +54,16 @@ pub trait Store {
     fn feature(&self, at: At, name: &Text) -> Result<Option<&i16>, NoEpoch>
         ensures { Finds (features_at (images self.now) at) result
             (λ map. entries.get text_order map name.now) };
+
+    /// Keys of partitions: at least of those that have the broker as a replica, in the present image and in every kept one.
+    /// Where there is none, no partition of any of these images has it.
+    fn keys_of(&self, broker: &i32) -> Option<&PartitionKeys>
+        ensures { AreAtLeastEverywhere (keys_or_none (option_copied result))
+            (has_replica broker.now) (images self.now) };
+
+    /// Keys of partitions: at least of those that a replica stands by of, in the present image and in every kept one.
+    fn standing_keys(&self) -> &PartitionKeys
+        ensures { AreAtLeastEverywhere result.now has_standing_by (images self.now) };
 
     /// By id.
     fn next_broker(&self, at: At, after: Option<&i32>) -> Result<Option<(&i32, &Broker)>, NoEpoch>

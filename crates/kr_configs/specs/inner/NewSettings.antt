@@ -1,5 +1,5 @@
 -- The image once a resource's settings have their new values.
-use Rattle.std.specs.Prelude.{Bool, not, ◌&&◌, ◌==◌, if◌then◌else◌, List, [], ℕ, ℤ, length, Option, option_and_then, unwrap_or}
+use Rattle.std.specs.Prelude.{Bool, not, ◌&&◌, if◌then◌else◌, List, [], ℕ, ℤ, Option, option_and_then, unwrap_or}
 use Rattle.std.specs.Ordering.{int_eq}
 use Rattle.kr_defs.specs.declared.options.Options.{Options}
 use Rattle.kr_defs.specs.declared.partition.Partition.{Partition}
@@ -23,10 +23,6 @@ has_enough options before after topic p =
 abbrev pub keeps_minimum : Image → ConfigResource → Values → Bool
 keeps_minimum image entry values =
     is_same_value (value_now image entry values minimum_key) (setting_value image entry.kind entry.name minimum_key)
-
--- a replica stands by
-abbrev pub has_standing_by : Partition → Bool
-has_standing_by p = not (length p.eligible == 0 && length p.last_known == 0)
 
 -- the minimum that a resource sets, where it reads
 abbrev pub minimum_set : Image → ℤ → List ℕ → Option ℤ

@@ -1,5 +1,5 @@
 -- What a tick makes of an engine.
-use Rattle.std.specs.Prelude.{◌≡◌, ◌≤◌, ◌+◌, ◌*◌, ◌&&◌, ◌-ℤ◌, ℕ, ℤ, pos, unsigned_abs, List, [], ◌∷◌, length, IsSome, is_some, Option, Some, None, if◌then◌else◌}
+use Rattle.std.specs.Prelude.{◌≡◌, ◌≤◌, ◌+◌, ◌*◌, ◌&&◌, ◌+ℤ◌, ◌-ℤ◌, ◌≤ℤ◌, ℕ, ℤ, pos, unsigned_abs, List, [], ◌∷◌, length, IsSome, is_some, Option, Some, None, if◌then◌else◌}
 use Rattle.kr_calls.specs.declared.events.Reason.{Reason}
 use Rattle.kr_defs.specs.declared.limits.TheConstants.{PLACES_END}
 use Rattle.kr_defs.specs.Heartbeats.{expired}
@@ -37,3 +37,13 @@ pub record CanFence (e : Core) (count : ℕ) : Type 0 where
 abbrev pub CanFenceAll : Core → List ℤ → Type 0
 CanFenceAll e [] = Unit {0}
 CanFenceAll e (broker ∷ brokers) = CanFence e (length (broker ∷ brokers))
+
+-- ---- steps
+
+-- as many steps as records
+abbrev pub Advances : Core → Core → ℕ → ℕ → Type 0
+Advances before after first last = pos last +ℤ before.tip ≡ pos first +ℤ after.tip
+
+-- beside these, one for each contact whose session has ended, and one more
+abbrev pub WithinLapsed : Core → Core → ℕ → ℕ → Type 0
+WithinLapsed before after first last = pos last ≤ℤ pos (first + length (lapsed_contacts before) + 1) +ℤ (after.tip -ℤ before.tip)

@@ -1,4 +1,4 @@
-use Rattle.std.proofs.Common.{◌≡◌, ◌≤◌, ◌+◌, drop}
+use Rattle.std.proofs.Common.{◌≡◌, ◌≤◌, ◌+◌, drop, length}
 use Rattle.std.specs.Prelude.{IsSome}
 use Rattle.kr_calls.specs.Deciding.{apply_records, weights}
 use Rattle.kr_store.specs.Images.{IsSettled, last_kept}
@@ -16,5 +16,6 @@ invariant-loop-record g l =
       settled : IsSettled (images l.fn.store) → IsSettled (images l.store);
       some : IsSome (last_kept (images l.store));
       made : (images l.store).made + weights (images l.store).tip rest ≤ (images l.fn.store).made + weights (images l.fn.store).tip l.records;
+      counted : l.steps + length rest ≡ l.fn.steps + length l.records;
       later : l.fn.steps ≤ l.steps;
     }

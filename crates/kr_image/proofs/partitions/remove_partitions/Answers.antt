@@ -25,7 +25,7 @@ pub loop-key-smaller : goal.loop-key-smaller
 loop-key-smaller c =
     let i = c.loop-key.invariant in
     let own : ℕ × ℤ → _ = λ (k : ℕ × ℤ). k.0 == c.args.topic.now in
-    let step = goes partition_order own partition_total c.loop-key.after c.end_of-end.result c.loop-key.partitions.maps.present c.in-Some.key i.ordered i.between (rw c.in-Some.is at c.in_ok-key.ensures) in
+    let step = goes partition_order own partition_total c.loop-key.after c.end_of-end.result c.loop-key.partitions.maps.present c.in-Some.key i.ordered i.between (rw (c.in-Some.is, c.timeline.ensures) at c.in_ok-key.ensures) in
     let gone = length-gone partition_order c.loop-key.partitions.maps.present c.in-Some.key step.there in
     let less = ap length c.in_ok-unset_counted.ensures.present in
     omega (arith, gone, less)
@@ -36,7 +36,7 @@ loop-key-preserved c =
     let es = c.loop-key.partitions.maps.present in
     let key = c.in-Some.key in
     let own : ℕ × ℤ → _ = λ (k : ℕ × ℤ). k.0 == c.args.topic.now in
-    let step = goes partition_order own partition_total c.loop-key.after c.end_of-end.result es key i.ordered i.between (rw c.in-Some.is at c.in_ok-key.ensures) in
+    let step = goes partition_order own partition_total c.loop-key.after c.end_of-end.result es key i.ordered i.between (rw (c.in-Some.is, c.timeline.ensures) at c.in_ok-key.ensures) in
     let theirs = partitions_between c.args.topic.now c.loop-key.after key i.own step.above (rw i.end at step.below) in
     let same = λ (x : ℕ × ℤ). partition_same c.args.topic.now key x theirs in
     let count = count-gone partition_order own key same es step.there in
@@ -55,4 +55,4 @@ loop-key-preserved c =
 
 pub returns-clause-present : goal.returns-clause-present
 returns-clause-present c =
-    sym (none_between partition_order (λ (k : ℕ × ℤ). k.0 == c.args.topic.now) partition_total c.loop-key.after c.end_of-end.result c.loop-key.partitions.maps.present c.loop-key.invariant.between (rw c.in_default.is at c.in_ok-key.ensures)) ∙ c.loop-key.invariant.others
+    sym (none_between partition_order (λ (k : ℕ × ℤ). k.0 == c.args.topic.now) partition_total c.loop-key.after c.end_of-end.result c.loop-key.partitions.maps.present c.loop-key.invariant.between (rw (c.in_default.is, c.timeline.ensures) at c.in_ok-key.ensures)) ∙ c.loop-key.invariant.others

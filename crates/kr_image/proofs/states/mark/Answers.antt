@@ -16,8 +16,8 @@ returns-clause-store c =
     let is = same_store c.args.timelines.now c.reserve.new.self c.args.kept.now.items c.reserve.ensures.same c.requires.store.store in
     let above = above_each (keeps_of c.args.timelines.now) c.args.kept.now.items c.args.epoch.now c.requires.above in
     rw (c.in_ok-push_back.ensures.items, c.kept_under.ensures) (record {
-      store = marked_store c.reserve.new.self c.mark.new.self c.args.epoch.now c.mark.ensures c.args.kept.now.items is.kept.epochs above c.args.begun.now is;
-      opens = begun_then c.args.kept.now.items c.args.begun.now (record { epoch = c.args.epoch.now; counts = c.reserve.new.self.counts; begun = c.args.begun.now }) refl c.requires.store.opens above;
+      store = marked_store c.reserve.new.self c.mark.new.self c.args.epoch.now c.mark.ensures c.args.kept.now.items is.kept.epochs above c.args.begun.now c.walks_up_to-walks.result is;
+      opens = begun_then c.args.kept.now.items c.args.begun.now (record { epoch = c.args.epoch.now; counts = c.reserve.new.self.counts; begun = c.args.begun.now; walks = c.walks_up_to-walks.result }) refl c.requires.store.opens above;
     })
 
 pub returns-clause-ok : goal.returns-clause-ok
@@ -25,4 +25,4 @@ returns-clause-ok c =
     let is = same_store c.args.timelines.now c.reserve.new.self c.args.kept.now.items c.reserve.ensures.same c.requires.store.store in
     let above = above_each (keeps_of c.args.timelines.now) c.args.kept.now.items c.args.epoch.now c.requires.above in
     let same = same_images_of c.args.timelines.now c.reserve.new.self c.args.kept.now.items c.args.begun.now c.reserve.ensures.same in
-    rw (c.in_ok-push_back.ensures.items, c.kept_under.ensures) (marked_images c.reserve.new.self c.mark.new.self c.args.epoch.now c.mark.ensures c.args.kept.now.items is.kept.epochs above c.args.begun.now ∙ ap (λ (i : Images). marked i c.args.epoch.now) same)
+    rw (c.in_ok-push_back.ensures.items, c.kept_under.ensures) (marked_images c.reserve.new.self c.mark.new.self c.args.epoch.now c.mark.ensures c.args.kept.now.items is.kept.epochs above c.args.begun.now c.walks_up_to-walks.result ∙ ap (λ (i : Images). marked i c.args.epoch.now) same)

@@ -4,9 +4,9 @@ use Rattle.std.specs.Option.{option_copied}
 use Rattle.kr_defs.specs.Map.{contains, text_order}
 use Rattle.kr_defs.specs.Texts.{names_agree}
 use Rattle.kr_defs.proofs.ImageParts.{text_total}
+use Rattle.kr_defs.proofs.Walks.{walk_less}
 use Rattle.kr_replication.proofs.AgreeingNames.{fewer, found, jump, none_next, none_other}
 use Rattle.kr_replication.proofs.EntryTests.{any_here, any_later, any_none}
-use Rattle.kr_replication.proofs.Changes.{topic_less}
 use Rattle.kr_replication.proofs.collision.has_agreeing_name.Goals as goal
 
 pub loop-next-preserved : goal.loop-next-preserved
@@ -22,7 +22,7 @@ pub loop-next-smaller : goal.loop-next-smaller
 loop-next-smaller g c =
     let topics = c.args.seen.now.topics in
     let next = rw c.in-Some.is at c.in_ok-next.ensures in
-    let less = topic_less topics (Some c.in-Some.next) (c.in-Some-next_topic.other.now, c.in-Some-next_topic._id.now) c.is_valid.ensures.topics.ordered c.in-Some-next_topic.ensures in
+    let less = walk_less text_total topics (Some c.in-Some.next) (c.in-Some-next_topic.other.now, c.in-Some-next_topic._id.now) c.is_valid.ensures.topics.ordered c.in-Some-next_topic.ensures in
     let most = fewer c.args.name.now (option_copied c.loop-next.after) c.in-Some.next next topics in
     omega (arith, less, most)
 

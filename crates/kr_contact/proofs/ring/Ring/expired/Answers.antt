@@ -3,4 +3,4 @@ use Rattle.kr_contact.proofs.ring.Ring.expired.Goals as goal
 
 pub expired-requires : goal.expired-requires
 expired-requires g c =
-    rw (c.read.ensures, c.len.ensures.len, ← c.self.invariant.0) (walk_known c.self.inside.first c.self.inside.nodes.items c.self.inside.places.entries _ c.self.invariant.1)
+    rw (c.read.ensures, c.len.ensures, ← c.self.invariant.0) (walk_known c.self.inside.first c.self.inside.nodes.items c.self.inside.places.entries _ c.self.invariant.1)

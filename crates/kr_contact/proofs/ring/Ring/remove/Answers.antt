@@ -23,7 +23,7 @@ pub invariant_of-self : goal.invariant_of-self
 invariant_of-self g c =
     let r = c.self.invariant.1 in
     let e : lookup (int_eq c.args.broker.now) c.self.inside.places.entries ≡ Some c.in-Some.place = sym c.take.ensures.value ∙ c.in-Some.is in
-    let gone = removal c.self.inside.first c.self.inside.nodes.items c.self.inside.places.entries _ r c.args.broker.now c.in-Some.place e c.take.new.places.entries c.take.ensures.entries c.in-Some.ensures.len in
+    let gone = removal c.self.inside.first c.self.inside.nodes.items c.self.inside.places.entries _ r c.args.broker.now c.in-Some.place e c.take.new.self.entries c.take.ensures.entries c.in-Some.ensures.len in
     (c.self.invariant.0 ∙ sym c.unlink.ensures.in_place, rw (c.unlink.ensures.items, ← c.self.invariant.0) gone.0)
 
 pub returns-in-Some-clause-was : goal.returns-in-Some-clause-was
@@ -36,7 +36,7 @@ pub returns-in-Some-clause-contacts : goal.returns-in-Some-clause-contacts
 returns-in-Some-clause-contacts g c =
     let r = c.self.invariant.1 in
     let e : lookup (int_eq c.args.broker.now) c.self.inside.places.entries ≡ Some c.in-Some.place = sym c.take.ensures.value ∙ c.in-Some.is in
-    let gone = removal c.self.inside.first c.self.inside.nodes.items c.self.inside.places.entries _ r c.args.broker.now c.in-Some.place e c.take.new.places.entries c.take.ensures.entries c.in-Some.ensures.len in
+    let gone = removal c.self.inside.first c.self.inside.nodes.items c.self.inside.places.entries _ r c.args.broker.now c.in-Some.place e c.take.new.self.entries c.take.ensures.entries c.in-Some.ensures.len in
     rw (c.unlink.ensures.items, ← c.self.invariant.0, ← c.self.view_is) gone.1
 
 pub returns-in-None-clause-was : goal.returns-in-None-clause-was

@@ -50,7 +50,7 @@ unfolding added_last
 invariant_of-self-in-None g c =
     let e : lookup (int_eq c.args.contact.now.broker) c.self.inside.places.entries ≡ None = sym c.place_of.ensures ∙ c.in-None.is in
     let at = at_end c.self.inside.first.at _ _ _ c.self.inside.nodes.items _ c.add_last-place.result c.self.invariant.0 c.self.inside.nodes.ok.0 c.add_last-place.ensures.len c.add_last-place.ensures.place in
-    (c.self.invariant.0 ∙ sym c.add_last-place.ensures.in_place, rw (c.add_last-place.ensures.items, ← c.self.invariant.0) (adding c.self.inside.first c.self.inside.nodes.items c.self.inside.places.entries _ c.self.invariant.1 c.args.contact.now e c.add_last-place.result c.put.new.places.entries at c.put.ensures.entries c.put.ensures.len).0)
+    (c.self.invariant.0 ∙ sym c.add_last-place.ensures.in_place, rw (c.add_last-place.ensures.items, ← c.self.invariant.0) (adding c.self.inside.first c.self.inside.nodes.items c.self.inside.places.entries _ c.self.invariant.1 c.args.contact.now e c.add_last-place.result c.put.new.self.entries at c.put.ensures.entries c.put.ensures.len).0)
 
 pub returns-in-Some-clause-contacts : goal.returns-in-Some-clause-contacts
 unfolding moved_last
@@ -63,7 +63,7 @@ unfolding added_last
 returns-in-None-clause-contacts g c =
     let e : lookup (int_eq c.args.contact.now.broker) c.self.inside.places.entries ≡ None = sym c.place_of.ensures ∙ c.in-None.is in
     let at = at_end c.self.inside.first.at _ _ _ c.self.inside.nodes.items _ c.add_last-place.result c.self.invariant.0 c.self.inside.nodes.ok.0 c.add_last-place.ensures.len c.add_last-place.ensures.place in
-    rw (c.add_last-place.ensures.items, ← c.self.invariant.0, ← c.self.view_is) (adding c.self.inside.first c.self.inside.nodes.items c.self.inside.places.entries _ c.self.invariant.1 c.args.contact.now e c.add_last-place.result c.put.new.places.entries at c.put.ensures.entries c.put.ensures.len).1
+    rw (c.add_last-place.ensures.items, ← c.self.invariant.0, ← c.self.view_is) (adding c.self.inside.first c.self.inside.nodes.items c.self.inside.places.entries _ c.self.invariant.1 c.args.contact.now e c.add_last-place.result c.put.new.self.entries at c.put.ensures.entries c.put.ensures.len).1
 
 pub returns-in-None-clause-again : goal.returns-in-None-clause-again
 returns-in-None-clause-again g c =

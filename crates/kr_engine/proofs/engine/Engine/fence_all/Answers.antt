@@ -1,5 +1,5 @@
 use Rattle.std.proofs.Common.{rules}
-use Rattle.kr_engine.proofs.Fencings.{next_fenced, next_indexed, next_open, next_valid}
+use Rattle.kr_engine.proofs.Fencings.{advances_more, next_fenced, next_open, next_valid}
 use Rattle.kr_engine.proofs.engine.Engine.fence_all.Goals as goal
 
 pub fence-requires-clause-open : goal.fence-requires-clause-open
@@ -16,6 +16,6 @@ loop-broker-preserved g c =
     let fenced = c.in_ok-fence.ensures in
     record {
       on = next_fenced c.args.self.now at c.args.brokers.now c.loop-broker.broker-index c.loop-broker.invariant.on c.loop-broker-test.true c.fence.new.self fenced.fences fenced.heard fenced.valid;
-      indexed = next_indexed c.args.self.now at c.args.brokers.now c.loop-broker.broker-index c.loop-broker.invariant.on c.loop-broker-test.true c.fence.new.self fenced.fences c.args.index.now c.loop-broker.invariant.indexed;
+      counted = advances_more c.args.self.now at c.fence.new.self c.args.steps.now c.loop-broker.steps c.fence.new.steps c.loop-broker.invariant.counted fenced.counted;
       later = search rules;
     }

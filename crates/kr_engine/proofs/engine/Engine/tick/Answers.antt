@@ -1,5 +1,5 @@
 use Rattle.kr_calls.specs.declared.events.Event.TheVariants as events
-use Rattle.kr_engine.proofs.Fencings.{noted_step}
+use Rattle.kr_engine.proofs.Fencings.{noted_step, ticked}
 use Rattle.kr_engine.proofs.Undoing.{settled_then, sound_then, unchanged}
 use Rattle.kr_engine.proofs.engine.Engine.tick.Goals as goal
 
@@ -17,3 +17,8 @@ returns-clause-unchanged g c =
 
 pub returns-clause-sound : goal.returns-clause-sound
 returns-clause-sound g c = sound_then c.end.result c.args.self.now c.end.new.self (events.Tick c.args.now.now) c.requires.sound (returns-clause-step g c) (returns-clause-unchanged g c)
+
+pub returns-clause-bound : goal.returns-clause-bound
+returns-clause-bound g c =
+    ticked c.end.result c.settle_tick-settled.result c.args.self.now c.begin_at-found.new.self c.settle_tick-settled.new.self c.undo_images.new.self c.end.new.self c.args.now.now c.args.steps.now c.settle_tick-settled.new.steps c.undo_images.new.steps
+    c.end.ensures.same c.begin_at-found.ensures.begun c.settle_tick-settled.ensures.bound c.undo_images.ensures.ok c.undo_images.ensures.still c.end.ensures.ok
