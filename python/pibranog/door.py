@@ -10,7 +10,7 @@ from typing import Any, Iterable, List, Optional, Sequence, Tuple, Type
 from pibranog.values import Elected, Partition
 from pibranog.wire import Reading, array, ids, text
 
-LOG_LINES, IMAGE_LINES, FOLD, IMAGE_BATCHES, ELECT, PLACE, PLAN = range(1, 8)
+LOG_LINES, IMAGE_LINES, FOLD, IMAGE_BATCHES, ELECT, PLACE, PLAN, REPLY = range(1, 9)
 CHOICES = ("InSync", "Eligible", "Unclean", "Nobody")
 HERE = os.path.dirname(os.path.dirname(os.path.dirname(os.path.abspath(__file__))))
 
@@ -119,3 +119,8 @@ class Door:
             rows.append((answer.text(), answer.number(4)))
             answer.tags()
         return rows
+
+    def reply(self, key: int, version: int, message: bytes) -> dict[str, Any]:
+        """A reply's message, without its size, to a request of this key and version: `responseHeader` and `response`, each as Kafka's
+        JSON converters of the message schemas show it."""
+        return json.loads(self.ask(REPLY, struct.pack(">hh", key, version) + message))

@@ -16,6 +16,7 @@ use Rattle.kr_door_loop.specs.declared.refusal.DoorRefusal.{DoorRefusal}
 use Rattle.kr_door_loop.specs.declared.refusal.DoorRefusal.TheVariants as refusals
 use Rattle.kr_door_loop.specs.Elections.{elect_question, elects}
 use Rattle.kr_door_loop.specs.Placements.{place_question, places}
+use Rattle.kr_door_loop.specs.Replies.{AnswersReply}
 
 -- bytes, or a refusal
 abbrev pub Answer : Type 0
@@ -135,3 +136,4 @@ AnswersKind kinds.ImageBatches = GivesBatches
 AnswersKind kinds.Elect = AnswersValue (Is elect_question) elects
 AnswersKind kinds.Place = AnswersValue (Is place_question) places
 AnswersKind kinds.Plan = PlansLeaders
+AnswersKind kinds.Reply = AnswersReply

@@ -11,3 +11,4 @@ question_number kinds.ImageBatches = 4
 question_number kinds.Elect = 5
 question_number kinds.Place = 6
 question_number kinds.Plan = 7
+question_number kinds.Reply = 8

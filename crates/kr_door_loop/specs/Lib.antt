@@ -2,6 +2,7 @@ pub mod Kinds
 pub mod Refusals
 pub mod Placements
 pub mod Elections
+pub mod Replies
 pub mod Answers
 pub mod Frames
 pub mod Endings

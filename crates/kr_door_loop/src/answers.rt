@@ -9,6 +9,7 @@ use crate::images::{image_batches, plan_leaders};
 use crate::lines::{show_image, show_log};
 use crate::logs::fold_log;
 use crate::placements::place_replicas;
+use crate::replies::show_reply;
 use crate::{Answer, DoorRefusal, QuestionKind};
 use std::alloc::Global;
 
@@ -23,6 +24,7 @@ fn answer_of(alloc: Global, kind: QuestionKind, body: &[u8]) -> Answer
         QuestionKind::Elect => elect_leader(alloc, body),
         QuestionKind::Place => place_replicas(alloc, body),
         QuestionKind::Plan => plan_leaders(alloc, body),
+        QuestionKind::Reply => show_reply(alloc, body),
     }
 }
 

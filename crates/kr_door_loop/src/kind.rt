@@ -21,6 +21,8 @@ pub enum QuestionKind {
     Place,
     /// Number 7: which partitions of an image are to be given back to their preferred leaders.
     Plan,
+    /// Number 8: a reply as JSON.
+    Reply,
 }
 
 impl QuestionKind {
@@ -37,6 +39,7 @@ impl QuestionKind {
             5 => Some(QuestionKind::Elect),
             6 => Some(QuestionKind::Place),
             7 => Some(QuestionKind::Plan),
+            8 => Some(QuestionKind::Reply),
             _ => None,
         }
     }

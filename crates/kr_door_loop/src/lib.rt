@@ -14,6 +14,7 @@ mod looping;
 mod placements;
 mod questions;
 mod refusal;
+mod replies;
 
 pub use kind::QuestionKind;
 use kr_defs::Bytes;

@@ -11,7 +11,8 @@ use base64::engine::general_purpose::URL_SAFE_NO_PAD;
 use kr_defs::Text;
 use std::alloc::{AllocError, Global};
 
-pub(crate) fn put_str(out: &mut Vec<u8>, text: &str) -> Result<(), AllocError>
+/// Appends these characters. Without memory some of them may stand behind what there was.
+pub fn put_str(out: &mut Vec<u8>, text: &str) -> Result<(), AllocError>
     ensures { OnOk result (out.new.items ≡ out.old.items ++ text.now) }
 {
     out.extend_from_slice(text.as_bytes())

@@ -1,0 +1,4 @@
+pub mod Forms
+pub mod Responses
+pub mod Shown
+pub mod inner
