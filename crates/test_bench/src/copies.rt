@@ -5,7 +5,7 @@ ghost use Rattle.kr_calls.specs.Decide.{is_read};
 ghost use Rattle.kr_view.specs.Staged.{is_begin, is_logged};
 ghost use Rattle.kr_view.specs.StagedLaws.{HasNothing, IsLogged};
 
-use crate::entries::{partition, topic_name};
+use crate::entries::add_topic;
 use anyhow::{Result, bail};
 use kr_calls::{
     Call, Entry, Metadata, MetadataRequestTopic, MetadataRequestTopics, Reply, Request,
@@ -13,7 +13,7 @@ use kr_calls::{
 use kr_defs::{Item, Options, PartitionChange, Record, Records, Text};
 use kr_view::laws::logged_entries_are_right;
 use kr_view::{Opening, Publisher, ReaderSeat, ReaderSeats, open};
-use std::alloc::Global;
+use std::alloc::{AllocError, Global};
 use std::sync::Wait;
 use std::thread;
 use std::thread::Threads;
@@ -31,10 +31,8 @@ const OFFSET: i64 = 1;
 pub(crate) enum Work {
     /// A change is published.
     Publish,
-    /// The one topic is read by one thread.
-    Look,
-    /// It is read so often by each of two threads.
-    LookTwice,
+    /// The one topic is read so often by each of so many threads, two at most.
+    Look(usize),
 }
 
 /// Copies of so many partitions.
@@ -72,15 +70,15 @@ impl Copies {
         requires { HasNothing publisher.old }
     {
         show(rt, publisher, image(alloc, self.partitions)?, OFFSET)?;
-        let mut seats = seats.into_vec();
-        let (Some(mut first), Some(mut second)) = (seats.pop(), seats.pop()) else {
-            bail!("there are no two seats");
-        };
-        let call = one_topic(alloc)?;
         match self.work {
             Work::Publish => publish_changes(rt, publisher, rounds),
-            Work::Look => Ok(looks(&mut first, &call, rounds)),
-            Work::LookTwice => Ok(look_by_two(rt, &mut first, &mut second, &call, rounds)),
+            Work::Look(threads) => look(
+                rt,
+                seats.into_vec(),
+                threads,
+                &Question::new(alloc)?,
+                rounds,
+            ),
         }
     }
 }
@@ -102,21 +100,12 @@ fn image(alloc: Global, partitions: i32) -> Result<Entry>
     ensures { IfOk result (λ e. (is_logged e ≡ true) × (is_begin e ≡ false)) }
 {
     let mut records = Records::new(alloc);
-    add_topic(alloc, MANY, partitions.wrapping_sub(1), &mut records)?;
-    add_topic(alloc, ONE, 1, &mut records)?;
+    add_topic(alloc, 0, partitions.wrapping_sub(1), &mut records)?;
+    add_topic(alloc, 1, 1, &mut records)?;
     Ok(Entry::Load {
         offset: OFFSET,
         records,
     })
-}
-
-fn add_topic(alloc: Global, id: u128, partitions: i32, records: &mut Records) -> Result<()> {
-    let name = topic_name(alloc, if id == ONE { 1 } else { 0 })?;
-    records.push(Record::Topic { name, id })?;
-    for index in 0..partitions {
-        records.push(partition(alloc, id, index)?)?;
-    }
-    Ok(())
 }
 
 // The first partition has another leader.
@@ -170,53 +159,58 @@ fn publish_changes<R: Wait>(rt: &R, publisher: &mut Publisher, rounds: u32) -> R
     Ok(true)
 }
 
-fn one_topic(alloc: Global) -> Result<Call>
-    ensures { IfOk result (λ call. IsTrue (is_read call.request)) }
-{
-    let mut topics = MetadataRequestTopics::new(alloc);
-    topics.push(MetadataRequestTopic {
-        topic: ONE,
-        name: None,
-    })?;
-    Ok(Call {
-        correlation: 1,
-        request: Request::Metadata(Metadata {
+/// A read of the one topic.
+#[derive(Drop)]
+struct Question {
+    call: Call,
+    ghost read: { IsTrue (is_read call.request) },
+}
+
+impl Question {
+    fn new(alloc: Global) -> Result<Question, AllocError> {
+        let mut topics = MetadataRequestTopics::new(alloc);
+        topics.push(MetadataRequestTopic {
+            topic: ONE,
+            name: None,
+        })?;
+        let request = Request::Metadata(Metadata {
             topics: Some(topics),
-        }),
-    })
-}
-
-// Reads so often. False where the one topic wasn't there.
-fn looks(seat: &mut ReaderSeat, call: &Call, rounds: u32) -> bool
-    requires { IsTrue (is_read call.now.request) }
-{
-    for _ in 0..rounds {
-        let reply = seat.read(call);
-        match &reply {
-            Ok(Reply::Metadata(reply)) if reply.topics.len() == 1 => {}
-            _ => return false,
-        }
+        });
+        Ok(Question {
+            call: Call {
+                correlation: 1,
+                request,
+            },
+        })
     }
-    true
+
+    // Asks so often. False where the one topic wasn't there.
+    fn is_answered(&self, mut seat: ReaderSeat, rounds: u32) -> bool {
+        for _ in 0..rounds {
+            let reply = seat.read(&self.call);
+            match &reply {
+                Ok(Reply::Metadata(reply)) if reply.topics.len() == 1 => {}
+                _ => return false,
+            }
+        }
+        true
+    }
 }
 
-fn look_by_two<R: Threads>(
+// Each of so many seats asks in a thread of its own.
+fn look<R: Threads + Sync>(
     rt: &R,
-    first: &mut ReaderSeat,
-    second: &mut ReaderSeat,
-    call: &Call,
+    seats: Vec<ReaderSeat>,
+    threads: usize,
+    question: &Question,
     rounds: u32,
-) -> bool
-    requires { IsTrue (is_read call.now.request) }
-{
-    let (one, other) = thread::join(
+) -> Result<bool> {
+    let mut seats = seats;
+    seats.truncate(threads);
+    let answered = thread::map_vec(
         rt,
-        ||
-            requires { IsTrue (is_read call.now.request) }
-        { looks(first, call, rounds) },
-        ||
-            requires { IsTrue (is_read call.now.request) }
-        { looks(second, call, rounds) },
-    );
-    one && other
+        seats,
+        &|seat: ReaderSeat| question.is_answered(seat, rounds),
+    )?;
+    Ok(answered.len() == threads && !answered.contains(&false))
 }

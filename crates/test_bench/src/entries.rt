@@ -1,6 +1,6 @@
 //! The entries of a large image.
 
-use kr_defs::{Broker, Endpoint, Endpoints, Ids, Partition, Ranges, Record, Text};
+use kr_defs::{Broker, Endpoint, Endpoints, Ids, Partition, Ranges, Record, Records, Text};
 use std::alloc::{AllocError, Global};
 
 const BROKERS: i32 = 100;
@@ -13,69 +13,80 @@ const PARTITIONS: i32 = 90;
 const SETTINGS: i32 = 20;
 
 /// A record for each entry: 100 brokers, 100 topics with 90 partitions each, and 20 settings.
-pub(crate) fn entries(alloc: Global) -> Result<Vec<Record>, AllocError> {
-    let mut records = Vec::new(alloc);
-    for id in 0..BROKERS {
-        records.push(registration(alloc, id)?)?;
-    }
+pub(crate) fn entries(alloc: Global) -> Result<Records, AllocError> {
+    let mut records = Records::new(alloc);
+    add_brokers(alloc, &mut records)?;
     for number in 0..TOPICS {
-        add_topic(alloc, number, &mut records)?;
+        add_topic(alloc, number, PARTITIONS, &mut records)?;
     }
-    for number in 0..SETTINGS {
-        records.push(setting(alloc, number)?)?;
-    }
+    add_settings(alloc, &mut records)?;
     Ok(records)
 }
 
-fn registration(alloc: Global, id: i32) -> Result<Record, AllocError> {
-    let mut endpoints = Endpoints::new(alloc);
-    endpoints.push(Endpoint {
-        name: Text::from_str(alloc, "PLAINTEXT")?,
-        host: Text::from_string(format!(in alloc; "broker-{id}.example.org")?),
-        port: 9_092,
-        protocol: 0,
-    })?;
-    Ok(Record::RegisterBroker {
-        broker: id,
-        state: Broker {
-            epoch: 1,
-            incarnation: 7,
-            endpoints,
-            features: Ranges::new(alloc),
-            rack: Some(Text::from_str(alloc, "a")?),
-            fenced: false,
-            stopping: false,
-        },
+fn add_brokers(alloc: Global, records: &mut Records) -> Result<(), AllocError> {
+    for broker in 0..BROKERS {
+        let state = broker_of(alloc, broker)?;
+        records.push(Record::RegisterBroker { broker, state })?;
+    }
+    Ok(())
+}
+
+fn broker_of(alloc: Global, id: i32) -> Result<Broker, AllocError> {
+    Ok(Broker {
+        epoch: 1,
+        incarnation: 7,
+        endpoints: endpoints_of(alloc, id)?,
+        features: Ranges::new(alloc),
+        rack: Some(Text::from_str(alloc, "a")?),
+        fenced: false,
+        stopping: false,
     })
 }
 
-pub(crate) fn topic_name(alloc: Global, number: i32) -> Result<Text, AllocError> {
+fn endpoints_of(alloc: Global, id: i32) -> Result<Endpoints, AllocError> {
+    let mut endpoints = Endpoints::new(alloc);
+    endpoints.push(endpoint_of(alloc, id)?)?;
+    Ok(endpoints)
+}
+
+fn endpoint_of(alloc: Global, id: i32) -> Result<Endpoint, AllocError> {
+    let host = format!(in alloc; "broker-{id}.example.org")?;
+    Ok(Endpoint {
+        name: Text::from_str(alloc, "PLAINTEXT")?,
+        host: Text::from_string(host),
+        port: 9_092,
+        protocol: 0,
+    })
+}
+
+fn topic_name(alloc: Global, number: i32) -> Result<Text, AllocError> {
     Ok(Text::from_string(format!(in alloc; "topic-{number}")?))
 }
 
-// A topic, and its partitions.
-fn add_topic(alloc: Global, number: i32, records: &mut Vec<Record>) -> Result<(), AllocError> {
+/// A topic, whose id is one more than its number, and so many partitions.
+pub(crate) fn add_topic(
+    alloc: Global,
+    number: i32,
+    partitions: i32,
+    records: &mut Records,
+) -> Result<(), AllocError> {
     let id = number.unsigned_abs() as u128 + 1;
     let name = topic_name(alloc, number)?;
     records.push(Record::Topic { name, id })?;
-    for index in 0..PARTITIONS {
+    for index in 0..partitions {
         records.push(partition(alloc, id, index)?)?;
     }
     Ok(())
 }
 
 /// A record for each of so many partitions of one topic, behind the topic's own.
-pub(crate) fn one_topic(alloc: Global, count: i32) -> Result<Vec<Record>, AllocError> {
-    let mut records = Vec::new(alloc);
-    let name = topic_name(alloc, 0)?;
-    records.push(Record::Topic { name, id: 1 })?;
-    for index in 0..count {
-        records.push(partition(alloc, 1, index)?)?;
-    }
+pub(crate) fn one_topic(alloc: Global, partitions: i32) -> Result<Records, AllocError> {
+    let mut records = Records::new(alloc);
+    add_topic(alloc, 0, partitions, &mut records)?;
     Ok(records)
 }
 
-pub(crate) fn partition(alloc: Global, topic: u128, index: i32) -> Result<Record, AllocError> {
+fn partition(alloc: Global, topic: u128, index: i32) -> Result<Record, AllocError> {
     Ok(Record::Partition {
         index,
         topic,
@@ -106,6 +117,13 @@ fn replicas(alloc: Global, index: i32) -> Result<Ids, AllocError> {
         ids.push((index % BROKERS).wrapping_add(next) % BROKERS)?;
     }
     Ok(ids)
+}
+
+fn add_settings(alloc: Global, records: &mut Records) -> Result<(), AllocError> {
+    for number in 0..SETTINGS {
+        records.push(setting(alloc, number)?)?;
+    }
+    Ok(())
 }
 
 fn setting(alloc: Global, number: i32) -> Result<Record, AllocError> {

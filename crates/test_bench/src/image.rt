@@ -32,7 +32,7 @@ pub(crate) struct Written {
 
 impl Written {
     pub(crate) fn new(alloc: Global) -> Result<Written> {
-        let store = store_of::<Brand>(alloc, &entries(alloc)?, Blank::new(1))?;
+        let store = store_of::<Brand>(alloc, entries(alloc)?.as_slice(), Blank::new(1))?;
         let mut bytes = Vec::new(alloc);
         write(alloc, &store, At::Tip, OFFSET, &mut bytes)?;
         images();

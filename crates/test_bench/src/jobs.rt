@@ -8,6 +8,8 @@ use crate::image::Written;
 use crate::placing::{PARTITIONS, brokers, place_all};
 use crate::request::{Form, ask, topics_of};
 use anyhow::Result;
+use kr_batch::BatchFault;
+use kr_snapshot::{ImageFault, SnapFault};
 use kr_store::Store;
 use std::alloc::{AllocError, Global};
 use std::sync::Wait;
@@ -55,12 +57,12 @@ const JOBS: [(&str, Job); 23] = [
     ("publish-100", Job::Copy(Work::Publish, 100)),
     ("publish-1000", Job::Copy(Work::Publish, 1_000)),
     ("publish-9000", Job::Copy(Work::Publish, 9_000)),
-    ("look-100", Job::Copy(Work::Look, 100)),
-    ("look-1000", Job::Copy(Work::Look, 1_000)),
-    ("look-9000", Job::Copy(Work::Look, 9_000)),
-    ("look-twice-100", Job::Copy(Work::LookTwice, 100)),
-    ("look-twice-1000", Job::Copy(Work::LookTwice, 1_000)),
-    ("look-twice-9000", Job::Copy(Work::LookTwice, 9_000)),
+    ("look-100", Job::Copy(Work::Look(1), 100)),
+    ("look-1000", Job::Copy(Work::Look(1), 1_000)),
+    ("look-9000", Job::Copy(Work::Look(1), 9_000)),
+    ("look-twice-100", Job::Copy(Work::Look(2), 100)),
+    ("look-twice-1000", Job::Copy(Work::Look(2), 1_000)),
+    ("look-twice-9000", Job::Copy(Work::Look(2), 9_000)),
 ];
 
 impl Job {
@@ -83,11 +85,11 @@ impl Job {
         let alloc = rt.alloc();
         match self {
             Job::Sum => Ok(are_summed(alloc, rounds)?),
-            Job::Encode(kind) => Ok(is_encoded(alloc, kind, rounds)?),
-            Job::Decode(kind) => is_decoded(alloc, kind, rounds),
+            Job::Encode(kind) => Ok(is_encoded(alloc, &Encoded::new(alloc, kind)?, rounds)?),
+            Job::Decode(kind) => Ok(is_decoded(alloc, &Encoded::new(alloc, kind)?, rounds)?),
             Job::Ask(form) => Ok(is_read(alloc, form, rounds)?),
-            Job::Write => is_image_written(alloc, rounds),
-            Job::Read => is_image_read(alloc, rounds),
+            Job::Write => Ok(is_image_written(alloc, &Written::new(alloc)?, rounds)?),
+            Job::Read => Ok(is_image_read(alloc, &Written::new(alloc)?, rounds)?),
             Job::Place => Ok(are_placed(alloc, rounds)?),
             Job::Beat(brokers) => Ok(have_beaten(alloc, brokers, rounds)?),
             Job::Copy(work, partitions) => Copies { work, partitions }.are_done(rt, alloc, rounds),
@@ -95,8 +97,7 @@ impl Job {
     }
 }
 
-fn is_encoded(alloc: Global, kind: Kind, rounds: u32) -> Result<bool, AllocError> {
-    let encoded = Encoded::new(alloc, kind)?;
+fn is_encoded(alloc: Global, encoded: &Encoded, rounds: u32) -> Result<bool, AllocError> {
     let mut room = Vec::new(alloc);
     for _ in 0..rounds {
         room.clear();
@@ -105,8 +106,7 @@ fn is_encoded(alloc: Global, kind: Kind, rounds: u32) -> Result<bool, AllocError
     Ok(room.as_slice() == encoded.as_bytes())
 }
 
-fn is_decoded(alloc: Global, kind: Kind, rounds: u32) -> Result<bool> {
-    let encoded = Encoded::new(alloc, kind)?;
+fn is_decoded(alloc: Global, encoded: &Encoded, rounds: u32) -> Result<bool, BatchFault> {
     for _ in 0..rounds {
         let batch = encoded.decode(alloc)?;
         if batch.items.len() != encoded.records() {
@@ -127,8 +127,7 @@ fn is_read(alloc: Global, form: Form, rounds: u32) -> Result<bool, AllocError> {
     Ok(true)
 }
 
-fn is_image_written(alloc: Global, rounds: u32) -> Result<bool> {
-    let image = Written::new(alloc)?;
+fn is_image_written(alloc: Global, image: &Written, rounds: u32) -> Result<bool, SnapFault> {
     let mut room = Vec::new(alloc);
     for _ in 0..rounds {
         room.clear();
@@ -137,8 +136,7 @@ fn is_image_written(alloc: Global, rounds: u32) -> Result<bool> {
     Ok(room.as_slice() == image.as_bytes())
 }
 
-fn is_image_read(alloc: Global, rounds: u32) -> Result<bool> {
-    let image = Written::new(alloc)?;
+fn is_image_read(alloc: Global, image: &Written, rounds: u32) -> Result<bool, ImageFault> {
     for _ in 0..rounds {
         let (_, store) = image.read(alloc)?;
         if store.counts() != image.counts() {

@@ -4,8 +4,7 @@ ghost use Rattle.std.specs.Prelude.{◌≡◌, ◌↔◌, [], ◌∷◌, Some, I
 
 use crate::jobs::Job;
 use kr_defs::Text;
-use std::env;
-use std::io::{self, ErrorKind};
+use kr_process::{WordsFault, words_of};
 use std::rt::Env;
 
 /// The ways to run the jobs.
@@ -32,20 +31,12 @@ pub(crate) enum Asked {
 }
 
 /// What the words of this process ask for. Words that aren't all text ask for nothing.
-pub(crate) fn read_asked<R: Env + AllocGlobal>(rt: &R) -> io::Result<Option<Asked>> {
-    match read_words(rt) {
+pub(crate) fn read_asked<R: Env + AllocGlobal>(rt: &R) -> Result<Option<Asked>, WordsFault> {
+    match words_of(rt) {
         Ok(words) => Ok(asked_by(&words)),
-        Err(fault) if fault.kind() == ErrorKind::InvalidData => Ok(None),
-        Err(fault) => Err(fault),
+        Err(WordsFault::NotText) => Ok(None),
+        Err(WordsFault::NoMemory) => Err(WordsFault::NoMemory),
     }
-}
-
-fn read_words<R: Env + AllocGlobal>(rt: &R) -> io::Result<Vec<Text>> {
-    let mut words = Vec::new(rt.alloc());
-    for word in env::args(rt)?.skip(1) {
-        words.push(Text::from_string(word))?;
-    }
-    Ok(words)
 }
 
 // A job and how often, or a mode.

@@ -18,7 +18,7 @@ const TOPIC: u128 = 1;
 /// Puts them into a store and prints a line. What is measured is how much memory that takes.
 pub(crate) fn print_store<R: Print + AllocGlobal>(rt: &R) -> Result<()> {
     let records = one_topic(rt.alloc(), MOST_PARTITIONS as i32)?;
-    let store = store_of::<Brand>(rt.alloc(), &records, Blank::new(1))?;
+    let store = store_of::<Brand>(rt.alloc(), records.as_slice(), Blank::new(1))?;
     println!(rt; "store: {} partitions", store.counts().partitions)?;
     Ok(())
 }

@@ -57,6 +57,18 @@ struct Seen {
     refusals: Vec<Vec<u8>>,
 }
 
+impl Seen {
+    fn nothing(alloc: Global) -> Seen {
+        Seen {
+            place: 0,
+            log: Vec::new(alloc),
+            ends: Vec::new(alloc),
+            images: Vec::new(alloc),
+            refusals: Vec::new(alloc),
+        }
+    }
+}
+
 // The kind of the frame that comes next, and what follows it.
 fn next_frame(alloc: Global, mut stream: &TcpStream) -> io::Result<(u8, Vec<u8>)> {
     let mut head = [0; 5];
@@ -79,26 +91,24 @@ fn commit_batch(seen: &mut Seen, mut stream: &TcpStream, batch: &[u8]) -> io::Re
     Ok(())
 }
 
+// A batch, an image or a refusal.
+fn take_frame(alloc: Global, stream: &TcpStream, seen: &mut Seen) -> io::Result<()> {
+    let (kind, body) = next_frame(alloc, stream)?;
+    match kind {
+        APPEND => commit_batch(seen, stream, body.as_slice()),
+        IMAGE_TEXT => Ok(seen.images.push(body)?),
+        REFUSAL => Ok(seen.refusals.push(body)?),
+        _ => Ok(()),
+    }
+}
+
 // Commits each batch as it comes. A client may write before the wrong event is taken, and an image is made beside all else,
 // so that the three batches, the two images and the refusal come in any order.
-fn commit_all(alloc: Global, stream: &TcpStream) -> io::Result<Seen> {
-    let mut seen = Seen {
-        place: 0,
-        log: Vec::new(alloc),
-        ends: vec![in alloc; 0]?,
-        images: Vec::new(alloc),
-        refusals: Vec::new(alloc),
-    };
+fn commit_all(alloc: Global, stream: &TcpStream, seen: &mut Seen) -> io::Result<()> {
     for _ in 0..CLIENTS + 3 {
-        let (kind, body) = next_frame(alloc, stream)?;
-        match kind {
-            APPEND => commit_batch(&mut seen, stream, body.as_slice())?,
-            IMAGE_TEXT => seen.images.push(body)?,
-            REFUSAL => seen.refusals.push(body)?,
-            _ => (),
-        }
+        take_frame(alloc, stream, seen)?;
     }
-    Ok(seen)
+    Ok(())
 }
 
 // The one refusal so far is the first.
@@ -130,13 +140,14 @@ fn is_folded(alloc: Global, seen: &Seen, image: &[u8]) -> Result<bool, NoMemory>
 }
 
 // Leads, sends an event that is refused, commits all, sends another that is refused, and ends the link.
-fn lead(alloc: Global, mut stream: &TcpStream) -> io::Result<Option<Seen>> {
+fn lead(alloc: Global, mut stream: &TcpStream, seen: &mut Seen) -> io::Result<bool> {
+    seen.ends.push(0)?;
     stream.write_all(&LEAD)?;
     stream.write_all(&BAD_COMMIT)?;
-    let seen = commit_all(alloc, stream)?;
-    let is_told = is_refused_again(alloc, stream)? && is_refused_once(&seen);
+    commit_all(alloc, stream, seen)?;
+    let is_told = is_refused_again(alloc, stream)? && is_refused_once(seen);
     stream.write_all(&END)?;
-    Ok(if is_told { Some(seen) } else { None })
+    Ok(is_told)
 }
 
 // Each image is a fold of what was committed.
@@ -153,8 +164,7 @@ pub(crate) fn be_quorum(alloc: Global, listener: &TcpListener) -> bool {
     let Ok((stream, _)) = listener.accept() else {
         return false;
     };
-    match lead(alloc, &stream) {
-        Ok(Some(seen)) => are_folded(alloc, &seen).unwrap_or(false),
-        _ => false,
-    }
+    let mut seen = Seen::nothing(alloc);
+    let is_told = lead(alloc, &stream, &mut seen).unwrap_or(false);
+    is_told && are_folded(alloc, &seen).unwrap_or(false)
 }

@@ -7,13 +7,64 @@ use std::test::Fail;
 
 const LONGEST_CLUSTER: usize = 255;
 
-// Lines that the daemon takes.
-const TAKEN: [&str; 5] = [
-    "--listen a --node 1 --cluster c --salt 7",
-    "--listen=a --node=0 --cluster=c --salt=0 --link=b --clients=1",
-    "--salt 18446744073709551615 --clients 63 --cluster c --node 2147483647 --listen a",
-    "--listen a --node 10 --cluster=-c --salt 7 --link [::1]:9",
-    "--listen a --node 1 --cluster 7 --salt 7 --clients 10",
+// A line that the daemon takes, and what it says.
+#[derive(Clone, Copy)]
+struct Said {
+    line: &'static str,
+    listen: &'static str,
+    node: i32,
+    cluster: &'static str,
+    salt: u64,
+    link: Option<&'static str>,
+    clients: u32,
+}
+
+const TAKEN: [Said; 5] = [
+    Said {
+        line: "--listen a --node 1 --cluster c --salt 7",
+        listen: "a",
+        node: 1,
+        cluster: "c",
+        salt: 7,
+        link: None,
+        clients: 8,
+    },
+    Said {
+        line: "--listen=a --node=0 --cluster=c --salt=0 --link=b --clients=1",
+        listen: "a",
+        node: 0,
+        cluster: "c",
+        salt: 0,
+        link: Some("b"),
+        clients: 1,
+    },
+    Said {
+        line: "--salt 18446744073709551615 --clients 63 --cluster c --node 2147483647 --listen a",
+        listen: "a",
+        node: 2_147_483_647,
+        cluster: "c",
+        salt: u64::MAX,
+        link: None,
+        clients: 63,
+    },
+    Said {
+        line: "--listen a --node 10 --cluster=-c --salt 7 --link [::1]:9",
+        listen: "a",
+        node: 10,
+        cluster: "-c",
+        salt: 7,
+        link: Some("[::1]:9"),
+        clients: 8,
+    },
+    Said {
+        line: "--listen a --node 1 --cluster 7 --salt 7 --clients 10",
+        listen: "a",
+        node: 1,
+        cluster: "7",
+        salt: 7,
+        link: None,
+        clients: 10,
+    },
 ];
 
 // Lines that it refuses.
@@ -66,14 +117,24 @@ fn line_with_cluster(alloc: Global, len: usize) -> Result<String, AllocError> {
     Ok(line)
 }
 
+fn is_taken(alloc: Global, line: &str) -> Result<bool, AllocError> {
+    let read = read(alloc, line)?;
+    Ok(read.is_ok())
+}
+
+fn is_refused(alloc: Global, line: &str) -> Result<bool, AllocError> {
+    let read = read(alloc, line)?;
+    Ok(matches!(&read, Err(SettingsFault::Refused)))
+}
+
 #[test]
 fn lines_that_are_taken(rt: HostRuntime) -> Result<(), Fail> {
     let alloc = rt.alloc();
-    for line in TAKEN {
-        assert!(rt; read(alloc, line)?.is_ok());
+    for said in &TAKEN {
+        assert!(rt; is_taken(alloc, said.line)?);
     }
     let longest = line_with_cluster(alloc, LONGEST_CLUSTER)?;
-    assert!(rt; read(alloc, longest.as_str())?.is_ok());
+    assert!(rt; is_taken(alloc, longest.as_str())?);
     Ok(())
 }
 
@@ -81,43 +142,66 @@ fn lines_that_are_taken(rt: HostRuntime) -> Result<(), Fail> {
 fn lines_that_are_refused(rt: HostRuntime) -> Result<(), Fail> {
     let alloc = rt.alloc();
     for line in REFUSED {
-        assert_eq!(rt; read(alloc, line)?.err(), Some(SettingsFault::Refused));
+        assert!(rt; is_refused(alloc, line)?);
     }
     let longer = line_with_cluster(alloc, LONGEST_CLUSTER + 1)?;
-    assert_eq!(rt;
-        read(alloc, longer.as_str())?.err(),
-        Some(SettingsFault::Refused)
-    );
+    assert!(rt; is_refused(alloc, longer.as_str())?);
     Ok(())
+}
+
+fn is_text(text: &Option<Text>, expected: Option<&str>) -> bool {
+    match (text, expected) {
+        (Some(text), Some(expected)) => text.as_str() == expected,
+        (None, None) => true,
+        _ => false,
+    }
+}
+
+fn has_texts(settings: &Settings, said: &Said) -> bool {
+    settings.listen.as_str() == said.listen
+        && settings.cluster.as_str() == said.cluster
+        && is_text(&settings.link, said.link)
+}
+
+fn has_numbers(settings: &Settings, said: &Said) -> bool {
+    settings.node == said.node && settings.salt == said.salt && settings.clients == said.clients
+}
+
+fn is_said(alloc: Global, said: &Said) -> Result<bool, AllocError> {
+    let read = read(alloc, said.line)?;
+    Ok(match &read {
+        Ok(settings) => has_texts(settings, said) && has_numbers(settings, said),
+        Err(_) => false,
+    })
 }
 
 #[test]
 fn what_the_words_say(rt: HostRuntime) -> Result<(), Fail> {
-    let alloc = rt.alloc();
-    let least = read(alloc, TAKEN[0])?.ok().ok_or("settings")?;
-    assert!(rt; least.listen.as_str() == "a" && least.cluster.as_str() == "c");
-    assert!(rt; least.node == 1 && least.salt == 7 && least.clients == 8);
-    assert!(rt; least.link.is_none());
-    let most = read(alloc, TAKEN[2])?.ok().ok_or("settings")?;
-    assert!(rt; most.node == 2147483647 && most.salt == u64::MAX && most.clients == 63);
-    let linked = read(alloc, TAKEN[1])?.ok().ok_or("settings")?;
-    assert!(rt; linked.link.is_some_and(|link| link.as_str() == "b"));
+    for said in &TAKEN {
+        assert!(rt; is_said(rt.alloc(), said)?);
+    }
     Ok(())
+}
+
+// Lines, and whether help or the version is shown.
+const HELP: [(&str, bool); 6] = [
+    ("--help", true),
+    ("-h", true),
+    ("--version", true),
+    ("-V", true),
+    ("--listen a --node 1 --cluster c --salt 7", false),
+    ("--listen a --node 1 --cluster c", false),
+];
+
+fn is_shown(alloc: Global, line: &str) -> Result<bool, AllocError> {
+    let words = words_of(alloc, line)?;
+    Ok(help(alloc, &words).is_some())
 }
 
 #[test]
 fn help_is_shown_where_it_is_asked_for(rt: HostRuntime) -> Result<(), Fail> {
-    let alloc = rt.alloc();
-    for (line, is_shown) in [
-        ("--help", true),
-        ("-h", true),
-        ("--version", true),
-        ("-V", true),
-        (TAKEN[0], false),
-        (REFUSED[0], false),
-    ] {
-        let words = words_of(alloc, line)?;
-        assert_eq!(rt; help(alloc, &words).is_some(), is_shown);
+    for (line, shown) in &HELP {
+        assert!(rt; is_shown(rt.alloc(), line)? == *shown);
     }
     Ok(())
 }

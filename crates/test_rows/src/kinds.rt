@@ -52,7 +52,11 @@ pub(crate) const KINDS: [(Kind, &str); 20] = [
 impl Kind {
     /// The kind whose rows begin with this word.
     pub(crate) fn of(word: &str) -> Option<Kind> {
-        let named = KINDS.iter().find(|named| named.1 == word)?;
-        Some(named.0)
+        for (kind, name) in &KINDS {
+            if *name == word {
+                return Some(*kind);
+            }
+        }
+        None
     }
 }

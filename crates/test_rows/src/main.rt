@@ -2,26 +2,21 @@
 //! words. A row that differs is printed, and at the end how many rows of each kind hold.
 #![tactic(auto)]
 
-mod answers;
-mod codecs;
-mod heartbeats;
-mod image_text;
 mod kinds;
 mod moves;
-mod partitions;
-mod places;
 mod rows;
-mod stores;
 mod tellings;
 mod walks;
 
 use kinds::{KINDS, Kind};
+use kr_defs::Text;
+use kr_process::words_of;
 use rows::answer;
 use std::alloc::{AllocError, Global};
+use std::io;
 use std::io::Print;
 use std::process::ExitCode;
 use std::rt::Env;
-use std::{env, io};
 use testlib_words::{Counts, Judge, RowFault, compare_input};
 
 // What the lines are.
@@ -41,7 +36,7 @@ struct Tally {
 }
 
 fn main(rt: HostRuntime) -> ExitCode {
-    let Ok(Some(form)) = form_of(&rt) else {
+    let Some(form) = read_form(&rt) else {
         let _ = eprintln!(rt; "usage: test_rows [KIND]");
         return ExitCode::from(2);
     };
@@ -52,22 +47,22 @@ fn main(rt: HostRuntime) -> ExitCode {
     compare_input(&rt, &mut tally)
 }
 
-// The word behind the program's name is a kind; none, or `rows`, is rows of all kinds.
-fn form_of<R: Env + AllocGlobal>(rt: &R) -> io::Result<Option<Form>> {
-    let mut words = env::args(rt)?.skip(1);
-    let form = match words.next() {
-        None => return Ok(Some(Form::Mixed)),
-        Some(word) if word.as_str() == "rows" => Form::Mixed,
-        Some(word) => match Kind::of(word.as_str()) {
-            Some(kind) => Form::Alone(kind),
-            None => return Ok(None),
-        },
-    };
-    Ok(if words.next().is_none() {
-        Some(form)
-    } else {
-        None
-    })
+// What the words of this process ask for.
+fn read_form<R: Env + AllocGlobal>(rt: &R) -> Option<Form> {
+    match words_of(rt) {
+        Ok(words) => form_of(&words),
+        Err(_) => None,
+    }
+}
+
+// One word is a kind; none, or `rows`, is rows of all kinds.
+fn form_of(words: &[Text]) -> Option<Form> {
+    match words {
+        [] => Some(Form::Mixed),
+        [word] if word.as_str() == "rows" => Some(Form::Mixed),
+        [word] => Some(Form::Alone(Kind::of(word.as_str())?)),
+        _ => None,
+    }
 }
 
 impl Judge for Tally {

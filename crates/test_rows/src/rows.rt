@@ -1,16 +1,13 @@
 //! What a row asks, read from its fields, and the answer.
 
-use crate::codecs::{
+use crate::kinds::Kind;
+use crate::walks::{moves_row, nodes_row};
+use std::alloc::Global;
+use testlib_codec_answers::{
     balance_row, batch_row, dump_row, fold_row, image_row, message_row, primitive_row, record_row,
     session_row,
 };
-use crate::heartbeats::heartbeats_row;
-use crate::kinds::Kind;
-use crate::partitions::{build_row, completes_row, elect_row, eligible_row, merge_row, target_row};
-use crate::places::place_row;
-use crate::stores::apply_row;
-use crate::walks::{moves_row, nodes_row};
-use std::alloc::Global;
+use testlib_rule_rows::{Question, apply_row, change_row, heartbeats_row, place_row};
 use testlib_words::{Fields, RowFault};
 
 /// The answer to what a row of this kind asks.
@@ -26,12 +23,12 @@ fn answer_to(alloc: Global, kind: Kind, fields: &mut Fields) -> Result<String, R
         Kind::Primitives => primitive_row(alloc, fields),
         Kind::Records => record_row(alloc, fields),
         Kind::Batches => batch_row(alloc, fields),
-        Kind::Merge => merge_row(alloc, fields),
-        Kind::Target => target_row(alloc, fields),
-        Kind::Completes => completes_row(alloc, fields),
-        Kind::Eligible => eligible_row(alloc, fields),
-        Kind::Elect => elect_row(alloc, fields),
-        Kind::Build => build_row(alloc, fields),
+        Kind::Merge => change_row(alloc, Question::Merge, fields),
+        Kind::Target => change_row(alloc, Question::Target, fields),
+        Kind::Completes => change_row(alloc, Question::Completes, fields),
+        Kind::Eligible => change_row(alloc, Question::Eligible, fields),
+        Kind::Elect => change_row(alloc, Question::Elect, fields),
+        Kind::Build => change_row(alloc, Question::Build, fields),
         Kind::Place => place_row(alloc, fields),
         Kind::Sessions => session_row(alloc, fields),
         Kind::Messages => message_row(alloc, fields),

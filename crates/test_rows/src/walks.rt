@@ -1,31 +1,45 @@
 //! Rows on moves that are made with several controllers over one list.
 
 ghost use Rattle.std.specs.Prelude.{IfOk};
-ghost use Rattle.kr_nodes.specs.Standing.{IsReadyCluster, IsWriteMove};
+ghost use Rattle.kr_nodes.specs.Standing.{IsReadyCluster};
 
-use crate::heartbeats::MOST_OPERATIONS;
-use crate::moves::{Asked, asked_of, outcome_text};
+use crate::moves::{Asked, asked_of, push_outcome, step};
 use crate::tellings::add_told;
 use kr_drive::{drive, summary_text};
-use kr_nodes::{Cluster, MoveFault};
+use kr_nodes::Cluster;
 use kr_workload::options;
 use std::alloc::{AllocError, Global};
 use testlib_words::{Fields, RowFault};
+
+// A row has at most so many moves.
+const MOST_MOVES: u32 = 2_000;
 
 /// The number of nodes, the number of which their options are, and moves, with a slash before each: what comes of each, with
 /// slashes between them.
 pub(crate) fn moves_row(alloc: Global, fields: &mut Fields) -> Result<String, RowFault> {
     let nodes: u32 = fields.number()?;
     let salt: u32 = fields.number()?;
-    let mut cluster = cluster_of(alloc, nodes, salt)?;
     let mut text = String::new(alloc);
-    for _ in 0..MOST_OPERATIONS {
+    let mut cluster = cluster_of(alloc, nodes, salt)?;
+    add_moves(alloc, &mut cluster, fields, &mut text)?;
+    Ok(text)
+}
+
+fn add_moves(
+    alloc: Global,
+    cluster: &mut Cluster,
+    fields: &mut Fields,
+    text: &mut String,
+) -> Result<(), RowFault>
+    requires { IsReadyCluster cluster.old }
+{
+    for _ in 0..MOST_MOVES {
         if fields.is_empty() {
             break;
         }
-        add_asked(alloc, &mut cluster, fields, &mut text)?;
+        add_asked(alloc, cluster, fields, text)?;
     }
-    Ok(text)
+    Ok(())
 }
 
 // A slash, and a move.
@@ -42,7 +56,7 @@ fn add_asked(
     if !text.is_empty() {
         text.push_str(" / ")?;
     }
-    let asked = asked_of(alloc, fields)?;
+    let asked = asked_of(fields)?;
     add_move(alloc, cluster, asked, text)
 }
 
@@ -63,31 +77,20 @@ fn add_move(
     asked: Asked,
     text: &mut String,
 ) -> Result<(), RowFault>
-    requires ready { IsReadyCluster cluster.old }
-    requires write { IsWriteMove asked.turn }
+    requires { IsReadyCluster cluster.old }
     ensures { IsReadyCluster cluster.new }
 {
-    let Asked { turn, items } = asked;
     let before = cluster.told().len();
-    let outcome = cluster.step(turn);
-    if let Err(MoveFault::NoMemory) = &outcome {
-        return Err(RowFault::NoMemory);
-    }
-    add_state(alloc, cluster, outcome, text)?;
+    let outcome = step(alloc, cluster, asked)?;
+    push_outcome(alloc, outcome, text)?;
+    add_state(alloc, cluster, text)?;
     match cluster.told().get(before..) {
-        Some(told) => add_told(alloc, told, items, text),
+        Some(told) => add_told(alloc, told, asked.items(), text),
         None => Ok(()),
     }
 }
 
-fn add_state(
-    alloc: Global,
-    cluster: &Cluster,
-    outcome: Result<(), MoveFault>,
-    text: &mut String,
-) -> Result<(), AllocError> {
-    let outcome = outcome_text(alloc, outcome)?;
-    text.push_str(&outcome)?;
+fn add_state(alloc: Global, cluster: &Cluster, text: &mut String) -> Result<(), AllocError> {
     let length = cluster.length();
     let length = format!(in alloc; " {length} ")?;
     text.push_str(&length)?;

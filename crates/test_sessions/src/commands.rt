@@ -88,19 +88,18 @@ fn other_words(rt: HostRuntime) -> Result<(), Fail> {
     ];
     for words in lists {
         let ran = run_words(rt.alloc(), words, WHOLE)?;
-        assert_eq!(rt; ran.status, Status::Usage, "of {words:?}");
-        assert_eq!(rt;
-            (ran.input.left().len(), ran.output.calls()),
-            (140, 0),
-            "of {words:?}"
-        );
-        assert_eq!(rt;
-            ran.notes.written(),
-            b"usage: kr_tool session | fold | dump | make N | nodes N | balance P\n".as_slice(),
-            "of {words:?}"
-        );
+        assert!(rt; is_usage(&ran), "of {words:?}");
     }
     Ok(())
+}
+
+// Nothing is read and nothing is written but the line of the usage.
+fn is_usage(ran: &Ran) -> bool {
+    ran.status == Status::Usage
+        && ran.input.left().len() == 140
+        && ran.output.calls() == 0
+        && ran.notes.written()
+            == b"usage: kr_tool session | fold | dump | make N | nodes N | balance P\n".as_slice()
 }
 
 // The status of a session, and its line.
@@ -137,8 +136,10 @@ fn expect_told(rt: &impl Abort, alloc: Global, note: u64) -> Result<(), Fail> {
     for (setup, status, line) in TOLD {
         let ran = run_words(alloc, &["session"], Setup { note, ..setup })?;
         let wanted = if note == 0 { line } else { b"" };
-        assert_eq!(rt; ran.status, status, "at {setup:?}");
-        assert_eq!(rt; ran.notes.written(), wanted, "at {setup:?}");
+        assert!(rt;
+            ran.status == status && ran.notes.written() == wanted,
+            "at {setup:?}"
+        );
     }
     Ok(())
 }
@@ -165,16 +166,19 @@ const IMAGE: &str =
 
 const TEXT: &str = "offset 1\nconfig 4 \"\" \"min.insync.replicas\" \"2\"\n";
 
+// It is done, and has written this.
+fn has_written(ran: &Ran, bytes: &[u8]) -> bool {
+    ran.status == Status::Done && ran.output.written() == bytes
+}
+
 #[test]
 fn a_log_is_folded_and_its_image_dumped(rt: HostRuntime) -> Result<(), Fail> {
     let alloc = rt.alloc();
     let image = hex::decode(alloc, IMAGE)?;
     let folded = run_over(alloc, &["fold"], hex::decode(alloc, BATCH)?, WHOLE)?;
-    assert_eq!(rt; folded.status, Status::Done);
-    assert_eq!(rt; folded.output.written(), image.as_slice());
+    assert!(rt; has_written(&folded, image.as_slice()));
     let dumped = run_over(alloc, &["dump"], image, WHOLE)?;
-    assert_eq!(rt; dumped.status, Status::Done);
-    assert_eq!(rt; dumped.output.written(), TEXT.as_bytes());
+    assert!(rt; has_written(&dumped, TEXT.as_bytes()));
     Ok(())
 }
 
@@ -182,9 +186,9 @@ fn a_log_is_folded_and_its_image_dumped(rt: HostRuntime) -> Result<(), Fail> {
 fn the_session_of_a_number_twice(rt: HostRuntime) -> Result<(), Fail> {
     let first = run_words(rt.alloc(), &["make", "1"], WHOLE)?;
     let second = run_words(rt.alloc(), &["make", "1"], WHOLE)?;
-    assert_eq!(rt; (first.status, second.status), (Status::Done, Status::Done));
+    assert!(rt; has_written(&first, second.output.written()));
+    assert!(rt; has_written(&second, first.output.written()));
     assert!(rt; first.output.written().starts_with(b"events "));
-    assert_eq!(rt; first.output.written(), second.output.written());
     Ok(())
 }
 

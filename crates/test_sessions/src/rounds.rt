@@ -62,11 +62,10 @@ fn push_loss(bytes: &mut Vec<u8>, epoch: u32, next: u32, end: u32) -> Result<(),
     bytes.extend_from_slice(&[0, 0, 0, 5, 4])?;
     push_number(bytes, epoch)?;
     bytes.extend_from_slice(&[0, 0, 0, 21, 2])?;
-    push_number(bytes, next)?;
-    push_number(bytes, 0)?;
-    push_number(bytes, end)?;
-    push_number(bytes, 0)?;
-    push_number(bytes, 0)
+    for number in [next, 0, end, 0, 0] {
+        push_number(bytes, number)?;
+    }
+    Ok(())
 }
 
 // Each round commits a reassignment and loses its end.
@@ -97,12 +96,11 @@ fn twenty_thousand_rounds(rt: HostRuntime) -> Result<(), Fail> {
     let alloc = rt.alloc();
     let mut source = MemorySource::new(input(alloc)?, Vec::new(alloc));
     let mut output = MemorySink::new(alloc, 20_000_000, 100_000, Vec::new(alloc))?;
-    assert_eq!(rt; session(alloc, &mut source, &mut output), Status::Done);
-    let done = hex::decode(alloc, DONE)?;
-    let lost = hex::decode(alloc, LOST)?;
-    let answers = hex::decode(alloc, ANSWERS)?;
-    assert_eq!(rt; count_of(output.written(), &done), ROUNDS as usize);
-    assert_eq!(rt; count_of(output.written(), &lost), ROUNDS as usize);
-    assert!(rt; output.written().ends_with(&answers));
+    assert!(rt; session(alloc, &mut source, &mut output) == Status::Done);
+    for answer in [DONE, LOST] {
+        let answer = hex::decode(alloc, answer)?;
+        assert!(rt; count_of(output.written(), &answer) == ROUNDS as usize);
+    }
+    assert!(rt; output.written().ends_with(&hex::decode(alloc, ANSWERS)?));
     Ok(())
 }

@@ -45,9 +45,9 @@ fn byte_by_byte(rt: HostRuntime) -> Result<(), Fail> {
         inner: MemorySource::new(hex::decode(alloc, THIN)?, Vec::new(alloc)),
     };
     let mut output = MemorySink::new(alloc, given.len(), 2, Vec::new(alloc))?;
-    assert_eq!(rt; session(alloc, &mut input, &mut output), Status::Done);
-    assert_eq!(rt; output.written(), given.as_slice());
-    assert_eq!(rt; (input.inner.left().len(), input.inner.calls()), (0, 140));
+    assert!(rt; session(alloc, &mut input, &mut output) == Status::Done);
+    assert!(rt; output.written() == given.as_slice());
+    assert!(rt; input.inner.left().is_empty() && input.inner.calls() == 140);
     Ok(())
 }
 
@@ -88,7 +88,7 @@ fn nothing_behind_end_is_asked_for(rt: HostRuntime) -> Result<(), Fail> {
         };
         let mut input = StreamSource::new(alloc, source, frames)?;
         let mut output = MemorySink::new(alloc, 4096, 2, Vec::new(alloc))?;
-        assert_eq!(rt; session(alloc, &mut input, &mut output), Status::Done);
+        assert!(rt; session(alloc, &mut input, &mut output) == Status::Done);
     }
     Ok(())
 }
@@ -112,6 +112,11 @@ fn run_failing(alloc: Global, read: u64, put: u64) -> Result<Ran, Fail> {
     })
 }
 
+// It ended so, and what was written is a front of what is given.
+fn is_front(ran: &Ran, status: Status, given: &[u8]) -> bool {
+    ran.status == status && given.starts_with(&ran.written)
+}
+
 #[test]
 fn failing_reads(rt: HostRuntime) -> Result<(), Fail> {
     let given = hex::decode(rt.alloc(), GIVEN)?;
@@ -119,8 +124,7 @@ fn failing_reads(rt: HostRuntime) -> Result<(), Fail> {
     assert!(rt; reads > 4);
     for read in 1..=reads {
         let ran = run_failing(rt.alloc(), read, 0)?;
-        assert_eq!(rt; ran.status, Status::ReadFault, "at read {read}");
-        assert!(rt; given.starts_with(&ran.written), "at read {read}");
+        assert!(rt; is_front(&ran, Status::ReadFault, &given), "at read {read}");
     }
     Ok(())
 }
@@ -130,12 +134,8 @@ fn failing_puts(rt: HostRuntime) -> Result<(), Fail> {
     let given = hex::decode(rt.alloc(), GIVEN)?;
     for (put, written) in [(1, 0), (2, 101)] {
         let ran = run_failing(rt.alloc(), 0, put)?;
-        assert_eq!(rt; ran.status, Status::WriteFault, "at put {put}");
-        assert_eq!(rt;
-            Some(ran.written.as_slice()),
-            given.get(..written),
-            "at put {put}"
-        );
+        assert!(rt; is_front(&ran, Status::WriteFault, &given), "at put {put}");
+        assert!(rt; ran.written.len() == written, "at put {put}");
     }
     Ok(())
 }

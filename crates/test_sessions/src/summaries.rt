@@ -17,18 +17,17 @@ const OPENED: Summary = Summary {
 #[test]
 fn no_rounds(rt: HostRuntime) -> Result<(), Fail> {
     for seed in [7, 0, 4294967295] {
-        assert_eq!(rt; make(rt.alloc(), seed, 0)?, OPENED, "of {seed}");
+        assert!(rt; make(rt.alloc(), seed, 0)? == OPENED, "of {seed}");
     }
     Ok(())
 }
 
+const SIX_LINES: &str = "events 625\nrecords 3312\nkept 3312\nok 312\nrefused 0\nled 3000\n";
+
 #[test]
 fn six_lines(rt: HostRuntime) -> Result<(), Fail> {
     let text = summary_text(rt.alloc(), &OPENED)?;
-    assert_eq!(rt;
-        text.as_str(),
-        "events 625\nrecords 3312\nkept 3312\nok 312\nrefused 0\nled 3000\n"
-    );
+    assert!(rt; text.as_str() == SIX_LINES);
     Ok(())
 }
 
@@ -61,6 +60,6 @@ fn each_request_is_answered(rt: HostRuntime) -> Result<(), Fail> {
     let summary = make(rt.alloc(), 1, 2000)?;
     let replies = summary.ok.saturating_add(summary.refused);
     let pairs = replies.saturating_add(losses(1, 2000));
-    assert_eq!(rt; summary.events, pairs.saturating_mul(2).saturating_add(1));
+    assert!(rt; summary.events == pairs.saturating_mul(2).saturating_add(1));
     Ok(())
 }

@@ -10,13 +10,39 @@ use kr_calls::{
     Request,
 };
 use kr_defs::{Endpoint, Endpoints, Ranges, Rows, Text};
-use kr_shared::ClientSeat;
+use kr_shared::{ClientSeat, SubmitFault};
 use std::alloc::Global;
 use std::sync::Wait;
 
-pub(crate) fn registration(alloc: Global, broker: i32) -> Result<Call, NoMemory>
-    ensures { IfOk result (λ call. IsTrue (not (is_read call.request))) }
-{
+/// What a client writes.
+#[derive(Clone, Copy)]
+pub(crate) enum Write<'a> {
+    /// This broker registers.
+    Register(i32),
+    /// This broker, of this epoch, has read the log up to the offset.
+    Heartbeat(i32, i64, i64),
+    /// A topic of one partition.
+    Topic(&'a str),
+    /// A topic of so many partitions.
+    Partitions(&'a str, i32),
+    /// The minimum of replicas in sync, for all topics.
+    Setting(u64),
+}
+
+fn registration(alloc: Global, broker: i32) -> Result<BrokerRegistration, NoMemory> {
+    Ok(BrokerRegistration {
+        broker,
+        cluster: Text::from_str(alloc, "c1")?,
+        incarnation: 9,
+        listeners: listeners(alloc)?,
+        features: Ranges::new(alloc),
+        rack: None,
+        migrating: false,
+        previous_epoch: -1,
+    })
+}
+
+fn listeners(alloc: Global) -> Result<Endpoints, NoMemory> {
     let mut listeners = Endpoints::new(alloc);
     listeners.push(Endpoint {
         name: Text::from_str(alloc, "PLAINTEXT")?,
@@ -24,49 +50,20 @@ pub(crate) fn registration(alloc: Global, broker: i32) -> Result<Call, NoMemory>
         port: 9092,
         protocol: 0,
     })?;
-    let request = Request::BrokerRegistration(BrokerRegistration {
-        broker,
-        cluster: Text::from_str(alloc, "c1")?,
-        incarnation: 9,
-        listeners,
-        features: Ranges::new(alloc),
-        rack: None,
-        migrating: false,
-        previous_epoch: -1,
-    });
-    Ok(Call {
-        correlation: 1,
-        request,
-    })
+    Ok(listeners)
 }
 
-// It has read the log up to the offset.
-pub(crate) fn heartbeat(broker: i32, epoch: i64, offset: i64) -> Call
-    ensures { IsTrue (not (is_read result.request)) }
-{
-    Call {
-        correlation: 2,
-        request: Request::BrokerHeartbeat(BrokerHeartbeat {
-            broker,
-            epoch,
-            offset,
-            want_fence: false,
-            want_shutdown: false,
-        }),
+fn heartbeat(broker: i32, epoch: i64, offset: i64) -> BrokerHeartbeat {
+    BrokerHeartbeat {
+        broker,
+        epoch,
+        offset,
+        want_fence: false,
+        want_shutdown: false,
     }
 }
 
-// A topic of one partition.
-pub(crate) fn topic(alloc: Global, name: &str) -> Result<Call, NoMemory>
-    ensures { IfOk result (λ call. IsTrue (not (is_read call.request))) }
-{
-    topic_of(alloc, name, 1)
-}
-
-// A topic of so many partitions.
-pub(crate) fn topic_of(alloc: Global, name: &str, partitions: i32) -> Result<Call, NoMemory>
-    ensures { IfOk result (λ call. IsTrue (not (is_read call.request))) }
-{
+fn topic(alloc: Global, name: &str, partitions: i32) -> Result<CreateTopics, NoMemory> {
     let mut topics = CreatableTopics::new(alloc);
     topics.push(CreatableTopic {
         name: Text::from_str(alloc, name)?,
@@ -75,38 +72,52 @@ pub(crate) fn topic_of(alloc: Global, name: &str, partitions: i32) -> Result<Cal
         assignments: Rows::new(alloc),
         configs: Rows::new(alloc),
     })?;
-    Ok(Call {
-        correlation: 3,
-        request: Request::CreateTopics(CreateTopics {
-            topics,
-            validate_only: false,
-        }),
+    Ok(CreateTopics {
+        topics,
+        validate_only: false,
     })
 }
 
-// The minimum of replicas in sync, for all topics.
-pub(crate) fn setting(alloc: Global, value: u64) -> Result<Call, NoMemory>
-    ensures { IfOk result (λ call. IsTrue (not (is_read call.request))) }
-{
-    let mut configs = Rows::new(alloc);
-    configs.push(ConfigOperation {
+fn operation(alloc: Global, value: u64) -> Result<ConfigOperation, NoMemory> {
+    let value = format!(in alloc; "{value}")?;
+    Ok(ConfigOperation {
         name: Text::from_str(alloc, "min.insync.replicas")?,
         operation: 0,
-        value: Some(Text::from_string(format!(in alloc; "{value}")?)),
-    })?;
-    let mut resources = Rows::new(alloc);
-    resources.push(ConfigResource {
+        value: Some(Text::from_string(value)),
+    })
+}
+
+fn resource(alloc: Global, value: u64) -> Result<ConfigResource, NoMemory> {
+    let mut configs = Rows::new(alloc);
+    configs.push(operation(alloc, value)?)?;
+    Ok(ConfigResource {
         kind: 4,
         name: Text::new(alloc),
         configs,
-    })?;
-    Ok(Call {
-        correlation: 4,
-        request: Request::IncrementalAlterConfigs(IncrementalAlterConfigs {
-            resources,
-            validate_only: false,
-        }),
     })
+}
+
+fn setting(alloc: Global, value: u64) -> Result<IncrementalAlterConfigs, NoMemory> {
+    let mut resources = Rows::new(alloc);
+    resources.push(resource(alloc, value)?)?;
+    Ok(IncrementalAlterConfigs {
+        resources,
+        validate_only: false,
+    })
+}
+
+fn request(alloc: Global, write: Write) -> Result<Request, NoMemory>
+    ensures { IfOk result (λ request. IsTrue (not (is_read request))) }
+{
+    match write {
+        Write::Register(broker) => { Ok(Request::BrokerRegistration(registration(alloc, broker)?)) }
+        Write::Heartbeat(broker, epoch, offset) => {
+            Ok(Request::BrokerHeartbeat(heartbeat(broker, epoch, offset)))
+        }
+        Write::Topic(name) => Ok(Request::CreateTopics(topic(alloc, name, 1)?)),
+        Write::Partitions(name, count) => Ok(Request::CreateTopics(topic(alloc, name, count)?)),
+        Write::Setting(value) => { Ok(Request::IncrementalAlterConfigs(setting(alloc, value)?)) }
+    }
 }
 
 pub(crate) fn all_topics() -> Call
@@ -143,19 +154,62 @@ fn error_of(answered: &Answered) -> Option<i16> {
     }
 }
 
-// The place at which a write was decided, and the error of its reply; none where no answer came.
-pub(crate) fn place_and_error<R: Wait>(
-    rt: &R,
-    seat: &mut ClientSeat,
-    call: &Call,
-) -> Option<(i64, i16)>
+/// What a client is told of its write.
+#[derive(Clone, Copy)]
+pub(crate) enum Told {
+    /// The place at which it was decided, and the error of its reply.
+    Answer(i64, i16),
+    /// The number of the stop that ended it.
+    Stop(u64),
+    Nothing,
+}
+
+fn submit<R: Wait>(rt: &R, seat: &mut ClientSeat, call: &Call) -> Told
     requires { IsTrue (not (is_read call.now.request)) }
 {
     match seat.submit(rt, call) {
-        Ok(answered) => {
-            let answered = answered.get();
-            error_of(answered).map(|error| (answered.place, error))
+        Ok(answered) => told_by(answered.get()),
+        Err(SubmitFault::Ended { number }) => Told::Stop(number),
+        Err(_) => Told::Nothing,
+    }
+}
+
+fn told_by(answered: &Answered) -> Told {
+    match error_of(answered) {
+        Some(error) => Told::Answer(answered.place, error),
+        None => Told::Nothing,
+    }
+}
+
+/// What the client of a seat is told of its write.
+pub(crate) fn answer_to<R: Wait>(
+    rt: &R,
+    alloc: Global,
+    seat: &mut ClientSeat,
+    write: Write,
+) -> Told {
+    match request(alloc, write) {
+        Ok(request) => {
+            let call = Call {
+                correlation: 1,
+                request,
+            };
+            submit(rt, seat, &call)
         }
-        Err(_) => None,
+        Err(_) => Told::Nothing,
+    }
+}
+
+/// The write stands at the place.
+pub(crate) fn is_at<R: Wait>(
+    rt: &R,
+    alloc: Global,
+    seat: &mut ClientSeat,
+    write: Write,
+    place: i64,
+) -> bool {
+    match answer_to(rt, alloc, seat, write) {
+        Told::Answer(at, 0) => at == place,
+        _ => false,
     }
 }

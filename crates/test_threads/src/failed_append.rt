@@ -1,12 +1,10 @@
 //! A failed append loses the leadership, and with it each write that waits.
 
-ghost use Rattle.std.specs.Prelude.{◌<◌, ◌≤◌, IsTrue, not};
-ghost use Rattle.kr_calls.specs.Decide.{is_read};
+ghost use Rattle.std.specs.Prelude.{◌<◌, ◌≤◌};
 
-use crate::calls::{place_and_error, registration};
-use crate::threads::{Part, Signs, TellingQuorum, serve};
+use crate::calls::{Told, Write, answer_to};
+use crate::threads::{Part, Plan, serve};
 use kr_base::{NoMemory, OpenGate};
-use kr_calls::Call;
 use kr_shared::ClientSeat;
 use std::alloc::Global;
 use std::sync::Wait;
@@ -27,19 +25,14 @@ struct LostWrites {
 
 impl Part for LostWrites {
     fn play<R: Wait>(&self, rt: &R, seat: &mut ClientSeat) -> bool {
-        match registration(self.alloc, 1) {
-            Ok(call) => self.is_lost(rt, seat, &call) && self.is_lost(rt, seat, &call),
-            Err(_) => false,
-        }
+        self.is_lost(rt, seat) && self.is_lost(rt, seat)
     }
 }
 
 impl LostWrites {
-    fn is_lost<R: Wait>(&self, rt: &R, seat: &mut ClientSeat, call: &Call) -> bool
-        requires { IsTrue (not (is_read call.now.request)) }
-    {
-        match place_and_error(rt, seat, call) {
-            Some((place, LOST)) => {
+    fn is_lost<R: Wait>(&self, rt: &R, seat: &mut ClientSeat) -> bool {
+        match answer_to(rt, self.alloc, seat, Write::Register(1)) {
+            Told::Answer(place, LOST) => {
                 self.places.fetch_add(place, Ordering::SeqCst);
                 true
             }
@@ -48,33 +41,48 @@ impl LostWrites {
     }
 }
 
-// What came of the writes where each was lost: the sum of their places, how many appends there were, and how many were taken.
-fn lose<R: Threads + Wait + Sync>(
+// What is to come of the writes: the sum of their places, how many appends there are, and how many are taken.
+#[derive(Drop)]
+struct Losses {
+    places: i64,
+    appends: u64,
+    taken: usize,
+}
+
+// So many clients lose each write where the append of this number fails.
+fn are_lost<R: Threads + Wait + Sync>(
     rt: &R,
     alloc: Global,
     clients: u32,
     failing: u64,
-) -> Result<Option<(i64, u64, usize)>, NoMemory>
+    lost: Losses,
+) -> Result<bool, NoMemory>
     requires { (0 < clients) × (clients ≤ 64) }
 {
-    let signs = Signs::new();
-    let mut quorum = TellingQuorum::new(alloc, vec![in alloc; failing]?, &signs)?;
     let part = LostWrites {
         alloc,
         places: AtomicI64::new(0),
     };
-    if !serve(rt, alloc, clients, &mut OpenGate, &mut quorum, &part)? {
-        return Ok(None);
+    let plan = Plan { failing, last: 0 };
+    match serve(rt, alloc, clients, &mut OpenGate, plan, &part)? {
+        Some(kept) => Ok(
+            part.places.load(Ordering::SeqCst) == lost.places
+                && kept.calls() == lost.appends
+                && kept.sizes().len() == lost.taken,
+        ),
+        None => Ok(false),
     }
-    let places = part.places.load(Ordering::SeqCst);
-    let kept = &quorum.kept;
-    Ok(Some((places, kept.calls(), kept.sizes().len())))
 }
 
 // The first append fails: its write is lost at place 0, and so is the next one, since no node leads.
 #[test]
 fn a_failed_append_loses_the_leadership(rt: HostRuntime) -> Result<(), Fail> {
-    assert_eq!(rt; lose(&rt, rt.alloc(), 1, 1)?, Some((0, 1, 0)));
+    let lost = Losses {
+        places: 0,
+        appends: 1,
+        taken: 0,
+    };
+    assert!(rt; are_lost(&rt, rt.alloc(), 1, 1, lost)?);
     Ok(())
 }
 
@@ -82,6 +90,11 @@ fn a_failed_append_loses_the_leadership(rt: HostRuntime) -> Result<(), Fail> {
 // so are the other clients' writes, at place 0 again, which aren't appended.
 #[test]
 fn a_failed_append_loses_what_waits(rt: HostRuntime) -> Result<(), Fail> {
-    assert_eq!(rt; lose(&rt, rt.alloc(), 3, 2)?, Some((1, 2, 1)));
+    let lost = Losses {
+        places: 1,
+        appends: 2,
+        taken: 1,
+    };
+    assert!(rt; are_lost(&rt, rt.alloc(), 3, 2, lost)?);
     Ok(())
 }

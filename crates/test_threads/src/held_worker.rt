@@ -1,8 +1,8 @@
 //! Readers are answered while the worker is held.
 
-use crate::calls::{heartbeat, place_and_error, registration, topic, topics_seen};
-use crate::threads::{Part, Signs, TellingQuorum, serve};
-use kr_base::{Gate, NoMemory};
+use crate::calls::{Write, is_at, topics_seen};
+use crate::threads::{COMMITS, Part, serve};
+use kr_base::Gate;
 use kr_shared::ClientSeat;
 use std::alloc::Global;
 use std::sync::Wait;
@@ -67,18 +67,11 @@ impl Part for HeldWorker {
 impl HeldWorker {
     // Writes, and then sees the topic.
     fn write<R: Wait>(&self, rt: &R, seat: &mut ClientSeat) -> bool {
-        let written = self.are_written(rt, seat).unwrap_or(false);
+        let written = is_at(rt, self.alloc, seat, Write::Register(1), 0)
+            && is_at(rt, self.alloc, seat, Write::Heartbeat(1, 0, 9), 1)
+            && is_at(rt, self.alloc, seat, Write::Topic("t"), 2);
         self.reached.store(1, Ordering::SeqCst);
         written && topics_seen(seat) == Some(1)
-    }
-
-    fn are_written<R: Wait>(&self, rt: &R, seat: &mut ClientSeat) -> Result<bool, NoMemory> {
-        let register = registration(self.alloc, 1)?;
-        let create = topic(self.alloc, "t")?;
-        let registered = place_and_error(rt, seat, &register) == Some((0, 0));
-        let heard = place_and_error(rt, seat, &heartbeat(1, 0, 9)) == Some((1, 0));
-        let created = place_and_error(rt, seat, &create) == Some((2, 0));
-        Ok(registered && heard && created)
     }
 
     // Reads so often while the worker is held, and sees no topic.
@@ -95,8 +88,6 @@ impl HeldWorker {
 #[test]
 fn readers_are_answered_while_the_worker_is_held(rt: HostRuntime) -> Result<(), Fail> {
     let alloc = rt.alloc();
-    let signs = Signs::new();
-    let mut quorum = TellingQuorum::new(alloc, Vec::new(alloc), &signs)?;
     let part = HeldWorker {
         alloc,
         reached: AtomicU64::new(0),
@@ -106,7 +97,7 @@ fn readers_are_answered_while_the_worker_is_held(rt: HostRuntime) -> Result<(), 
         signs: &part,
         held: false,
     };
-    assert!(rt; serve(&rt, alloc, 3, &mut gate, &mut quorum, &part)?);
-    assert!(rt; gate.held);
+    let kept = serve(&rt, alloc, 3, &mut gate, COMMITS, &part)?;
+    assert!(rt; gate.held && kept.is_some());
     Ok(())
 }

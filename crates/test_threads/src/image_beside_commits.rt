@@ -1,8 +1,8 @@
 //! The image at a pinned place is written while another client writes.
 
-use crate::calls::topic;
-use crate::setup::{is_at, is_set_up};
-use crate::threads::{Part, Signs, TellingQuorum, serve};
+use crate::calls::{Write, is_at};
+use crate::setup::is_set_up;
+use crate::threads::{COMMITS, Part, serve};
 use kr_base::{Failed, MemorySink, NoMemory, OpenGate, Sink};
 use kr_shared::{Bell, ClientSeat, write_image};
 use std::alloc::Global;
@@ -41,7 +41,7 @@ impl Part for BesideCommits {
             fine
         } else {
             self.wait_for(rt, &self.is_begun);
-            let fine = self.writes_topic(rt, seat).unwrap_or(false);
+            let fine = is_at(rt, self.alloc, seat, Write::Topic("u"), 12);
             self.tell(rt, &self.is_written);
             fine
         }
@@ -65,10 +65,6 @@ impl BesideCommits {
         unreachable!()
     }
 
-    fn writes_topic<R: Wait>(&self, rt: &R, seat: &mut ClientSeat) -> Result<bool, NoMemory> {
-        Ok(is_at(rt, seat, &topic(self.alloc, "u")?, 12))
-    }
-
     fn memory(&self) -> Result<MemorySink, NoMemory> {
         MemorySink::new(self.alloc, ROOM, PUTS, Vec::new(self.alloc))
     }
@@ -84,7 +80,7 @@ impl BesideCommits {
 
     // The image at 12 is the same before the topic is written and while it is.
     fn writes_image<R: Wait>(&self, rt: &R, seat: &mut ClientSeat) -> Result<bool, NoMemory> {
-        let pinned = is_set_up(rt, self.alloc, seat)? && seat.pin(rt) == Ok(12);
+        let pinned = is_set_up(rt, self.alloc, seat) && seat.pin(rt) == Ok(12);
         let before = self.image_at(seat, 12)?;
         let mut beside = WaitingSink {
             rt,
@@ -138,14 +134,12 @@ impl<R: Wait> Sink for WaitingSink<'_, R> {
 #[test]
 fn an_image_is_written_beside_commits(rt: HostRuntime) -> Result<(), Fail> {
     let alloc = rt.alloc();
-    let signs = Signs::new();
-    let mut quorum = TellingQuorum::new(alloc, Vec::new(alloc), &signs)?;
     let part = BesideCommits {
         alloc,
         is_begun: AtomicBool::new(false),
         is_written: AtomicBool::new(false),
         news: Bell::new(),
     };
-    assert!(rt; serve(&rt, alloc, 2, &mut OpenGate, &mut quorum, &part)?);
+    assert!(rt; serve(&rt, alloc, 2, &mut OpenGate, COMMITS, &part)?.is_some());
     Ok(())
 }

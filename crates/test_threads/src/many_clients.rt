@@ -1,7 +1,7 @@
 //! 63 clients write at once, while a link commits: the log holds exactly what they were told.
 
-use crate::calls::{place_and_error, setting};
-use crate::threads::{Part, Signs, TellingQuorum, serve};
+use crate::calls::{Told, Write, answer_to};
+use crate::threads::{COMMITS, Part, serve};
 use kr_base::{MemoryQuorum, NoMemory, OpenGate};
 use kr_batch::decode;
 use kr_defs::{Item, Record};
@@ -50,11 +50,8 @@ impl Settings {
 
     // Sets the value, and keeps at which place the client was told that it stands.
     fn is_set<R: Wait>(&self, rt: &R, seat: &mut ClientSeat, value: u64) -> bool {
-        let Ok(call) = setting(self.alloc, value) else {
-            return false;
-        };
-        match place_and_error(rt, seat, &call) {
-            Some((place, 0)) => self.is_first(place, value),
+        match answer_to(rt, self.alloc, seat, Write::Setting(value)) {
+            Told::Answer(place, 0) => self.is_first(place, value),
             _ => false,
         }
     }
@@ -124,10 +121,10 @@ fn value_in(alloc: Global, bytes: &[u8]) -> Option<(i64, u64)> {
 #[test]
 fn the_log_holds_what_63_clients_were_told(rt: HostRuntime) -> Result<(), Fail> {
     let alloc = rt.alloc();
-    let signs = Signs::new();
-    let mut quorum = TellingQuorum::new(alloc, Vec::new(alloc), &signs)?;
     let part = Settings::new(alloc)?;
-    assert!(rt; serve(&rt, alloc, CLIENTS, &mut OpenGate, &mut quorum, &part)?);
-    assert!(rt; part.stand_in(&quorum.kept));
+    match serve(&rt, alloc, CLIENTS, &mut OpenGate, COMMITS, &part)? {
+        Some(kept) => assert!(rt; part.stand_in(&kept)),
+        None => assert!(rt; false),
+    }
     Ok(())
 }

@@ -3,7 +3,7 @@
 ghost use Rattle.std.specs.Prelude.{IfOk, IsTrue};
 ghost use Rattle.kr_queue.specs.Jobs.{is_link_event};
 
-use crate::threads::{Signs, TellingQuorum, options};
+use crate::threads::{Plan, Signs, TellingQuorum, options};
 use kr_base::{MemoryClock, OpenGate};
 use kr_calls::Event;
 use kr_defs::Bytes;
@@ -114,7 +114,11 @@ impl Stage<'_, '_> {
 fn a_transaction_outlasts_a_lost_leadership(rt: HostRuntime) -> Result<(), Fail> {
     let alloc = rt.alloc();
     let signs = Signs::new();
-    let mut quorum = TellingQuorum::new(alloc, vec![in alloc; 9]?, &signs)?;
+    let plan = Plan {
+        failing: 9,
+        last: 0,
+    };
+    let mut quorum = TellingQuorum::new(alloc, plan, &signs)?;
     let mut opening = Opening::new();
     let options = options(alloc)?;
     let opened = open(&rt, alloc, &mut opening, options, 1);

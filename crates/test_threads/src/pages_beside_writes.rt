@@ -1,13 +1,12 @@
 //! A client asks for the pages of all topics, one after the other, while another client deletes and creates one of them.
 
-use crate::calls::{all_topics, heartbeat, registration, topic, topic_of};
-use crate::setup::is_at;
-use crate::threads::{Part, Signs, TellingQuorum, serve};
+use crate::calls::{Write, all_topics, is_at};
+use crate::threads::{COMMITS, Part, serve};
 use kr_base::{Failed, MemorySink, MemorySource, NoMemory, OpenGate, Sink};
 use kr_calls::Reply;
 use kr_defs::Text;
 use kr_pages::{Described, DescribedTopic};
-use kr_server::{Exchange, MemoryTranscript, NoTranscript, ServeEnd, serve_client};
+use kr_server::{Exchange, MemoryTranscript, NoTranscript, ServeEnd, Transcript, serve_client};
 use kr_shared::{Bell, ClientSeat, MOST_PLACES};
 use std::alloc::Global;
 use std::sync::Wait;
@@ -23,6 +22,15 @@ const LINES: i32 = 9_000;
 const PAGE_LINES: i32 = 100;
 
 const PAGES: i32 = 90;
+
+// One active broker, and the three topics: what is written, and its place.
+const SET_UP: [(Write<'static>, i64); 5] = [
+    (Write::Register(1), 0),
+    (Write::Heartbeat(1, 0, 9), 1),
+    (Write::Topic("a"), 2),
+    (Write::Partitions("m", MIDDLE), 4),
+    (Write::Topic("z"), 9_003),
+];
 
 // That the topic `z` is deleted, and that it is created with one partition, each behind its size.
 const DELETION: [u8; 40] = [
@@ -94,19 +102,13 @@ impl PagesBesideWrites {
         done: u64,
     ) -> Result<bool, NoMemory> {
         let alloc = self.alloc;
-        if seat.pins() >= MOST_PLACES {
-            return Ok(false);
-        }
-        let mut message = Vec::new(alloc);
-        if done % 2 == 0 {
-            message.extend_from_slice(&DELETION)?;
-        } else {
-            message.extend_from_slice(&CREATION)?;
-        }
-        let mut source = MemorySource::new(message, Vec::new(alloc));
+        let message = change(alloc, done)?;
         let mut sink = MemorySink::new(alloc, 1_000, 10, Vec::new(alloc))?;
-        let end = serve_client(rt, alloc, seat, &mut source, &mut sink, &mut NoTranscript);
-        Ok(matches!(end, ServeEnd::Closed) && has_no_error(sink.written()))
+        let mut source = MemorySource::new(message, Vec::new(alloc));
+        Ok(
+            is_closed(rt, alloc, seat, &mut source, &mut sink, &mut NoTranscript)
+                && has_no_error(sink.written()),
+        )
     }
 
     // Has one more write done, and waits for it.
@@ -124,52 +126,61 @@ impl PagesBesideWrites {
         unreachable!()
     }
 
-    // One active broker, and the three topics.
-    fn is_set_up<R: Wait>(&self, rt: &R, seat: &mut ClientSeat) -> Result<bool, NoMemory> {
-        let alloc = self.alloc;
-        Ok(
-            is_at(rt, seat, &registration(alloc, 1)?, 0)
-                && is_at(rt, seat, &heartbeat(1, 0, 9), 1)
-                && is_at(rt, seat, &topic(alloc, "a")?, 2)
-                && is_at(rt, seat, &topic_of(alloc, "m", MIDDLE)?, 4)
-                && is_at(rt, seat, &topic(alloc, "z")?, 9_003),
-        )
+    fn is_set_up<R: Wait>(&self, rt: &R, seat: &mut ClientSeat) -> bool {
+        for (write, place) in &SET_UP {
+            if !is_at(rt, self.alloc, seat, *write, *place) {
+                return false;
+            }
+        }
+        true
     }
 
     // All pages are of the topics that stood at the first of them.
     fn walks<R: Wait>(&self, rt: &R, seat: &mut ClientSeat) -> Result<bool, NoMemory> {
-        let is_set_up = self.is_set_up(rt, seat)?;
-        let before = id_of(seat, "z");
-        if !is_set_up || seat.pins() >= MOST_PLACES {
+        if !self.is_set_up(rt, seat) {
             return Ok(false);
         }
+        let before = id_of(seat, "z");
+        let mut transcript = MemoryTranscript::new(self.alloc);
+        let is_served = self.is_served(rt, seat, &mut transcript)?;
+        let after = id_of(seat, "z");
+        Ok(is_served && is_walk(transcript.exchanges(), before) && are_two(before, after))
+    }
+
+    // All pages are asked for and put, and no place is held any more.
+    fn is_served<R: Wait>(
+        &self,
+        rt: &R,
+        seat: &mut ClientSeat,
+        transcript: &mut MemoryTranscript,
+    ) -> Result<bool, NoMemory> {
         let mut source = MemorySource::new(messages(self.alloc)?, Vec::new(self.alloc));
         let mut sink = AskingSink {
             rt,
             part: self,
             puts: 0,
         };
-        let mut transcript = MemoryTranscript::new(self.alloc);
-        let end = serve_client(
-            rt,
-            self.alloc,
-            seat,
-            &mut source,
-            &mut sink,
-            &mut transcript,
-        );
-        let after = id_of(seat, "z");
-        let exchanges = transcript.exchanges();
-        Ok(
-            matches!(end, ServeEnd::Closed)
-                && seat.pins() == 0
-                && sink.puts == PAGES
-                && is_walk(exchanges, before)
-                && before.is_some()
-                && after.is_some()
-                && before != after,
-        )
+        let is_closed = is_closed(rt, self.alloc, seat, &mut source, &mut sink, transcript);
+        Ok(is_closed && sink.puts == PAGES && seat.pins() == 0)
     }
+}
+
+// A connection is served to its end.
+fn is_closed<R: Wait, K: Sink, T: Transcript>(
+    rt: &R,
+    alloc: Global,
+    seat: &mut ClientSeat,
+    source: &mut MemorySource,
+    sink: &mut K,
+    transcript: &mut T,
+) -> bool {
+    if seat.pins() >= MOST_PLACES {
+        return false;
+    }
+    matches!(
+        serve_client(rt, alloc, seat, source, sink, transcript),
+        ServeEnd::Closed
+    )
 }
 
 // It takes all, and has the other client write behind each reply.
@@ -204,6 +215,17 @@ fn has_no_error(reply: &[u8]) -> bool {
 }
 
 // ---- the messages
+
+// Deletes the last topic, or creates it.
+fn change(alloc: Global, done: u64) -> Result<Vec<u8>, NoMemory> {
+    let mut message = Vec::new(alloc);
+    if done % 2 == 0 {
+        message.extend_from_slice(&DELETION)?;
+    } else {
+        message.extend_from_slice(&CREATION)?;
+    }
+    Ok(message)
+}
 
 // The message for a page, behind its size: from this partition of the topic in the middle on, or from the first line.
 fn add_message(bytes: &mut Vec<u8>, number: i32, cursor: Option<i32>) -> Result<(), NoMemory> {
@@ -251,6 +273,14 @@ fn id_of(seat: &mut ClientSeat, name: &str) -> Option<u128> {
             None
         }
         _ => None,
+    }
+}
+
+// Two ids that differ.
+fn are_two(before: Option<u128>, after: Option<u128>) -> bool {
+    match (before, after) {
+        (Some(before), Some(after)) => before != after,
+        _ => false,
     }
 }
 
@@ -337,8 +367,6 @@ fn is_walk(exchanges: &[Exchange], id: Option<u128>) -> bool {
 #[test]
 fn pages_of_a_walk_are_of_one_place(rt: HostRuntime) -> Result<(), Fail> {
     let alloc = rt.alloc();
-    let signs = Signs::new();
-    let mut quorum = TellingQuorum::new(alloc, Vec::new(alloc), &signs)?;
     let part = PagesBesideWrites {
         alloc,
         asked: AtomicU64::new(0),
@@ -347,6 +375,6 @@ fn pages_of_a_walk_are_of_one_place(rt: HostRuntime) -> Result<(), Fail> {
         has_failed: AtomicBool::new(false),
         news: Bell::new(),
     };
-    assert!(rt; serve(&rt, alloc, 2, &mut OpenGate, &mut quorum, &part)?);
+    assert!(rt; serve(&rt, alloc, 2, &mut OpenGate, COMMITS, &part)?.is_some());
     Ok(())
 }

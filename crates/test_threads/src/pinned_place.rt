@@ -1,8 +1,8 @@
 //! A seat's place is kept while it writes, until the seat gives it back.
 
-use crate::calls::{setting, topic};
-use crate::setup::{is_at, is_set_up};
-use crate::threads::{Part, Signs, TellingQuorum, serve};
+use crate::calls::{Write, is_at};
+use crate::setup::is_set_up;
+use crate::threads::{COMMITS, Part, serve};
 use kr_base::{NoMemory, OpenGate};
 use kr_defs::{Record, Text};
 use kr_shared::{ClientSeat, MOST_PLACES, PinFault};
@@ -33,12 +33,17 @@ fn shows(seat: &mut ClientSeat, place: i64, names: &[&str]) -> bool {
     let Ok(page) = seat.scan(place, None, 10) else {
         return false;
     };
-    let rows = page.as_slice();
+    are_first_of(page.as_slice(), names)
+}
+
+// The rows are of partition 0 of each of these topics.
+fn are_first_of(rows: &[PageRow], names: &[&str]) -> bool {
+    for (row, name) in rows.iter().zip(names) {
+        if !is_first_of(row, name) {
+            return false;
+        }
+    }
     rows.len() == names.len()
-        && rows
-            .iter()
-            .zip(names)
-            .all(|(row, name)| is_first_of(row, name))
 }
 
 // How many records there are at the place, of ten at most.
@@ -59,17 +64,22 @@ impl PinnedPlace {
         ))
     }
 
+    // Seven records at the pinned place and nine at the end, the topic among these alone.
+    fn has_records(&self, seat: &mut ClientSeat) -> Result<bool, NoMemory> {
+        let before = self.has_topic(seat, 12, "u")?;
+        let after = self.has_topic(seat, 14, "u")?;
+        let seven = count_records(seat, 12) == Some(7);
+        let nine = count_records(seat, 14) == Some(9);
+        Ok(!before && after && seven && nine && seat.loads() == 0)
+    }
+
     fn is_kept<R: Wait>(&self, rt: &R, seat: &mut ClientSeat) -> Result<bool, NoMemory> {
-        let pinned = is_set_up(rt, self.alloc, seat)? && seat.pin(rt) == Ok(12);
-        let written = is_at(rt, seat, &topic(self.alloc, "u")?, 12);
+        let pinned = is_set_up(rt, self.alloc, seat) && seat.pin(rt) == Ok(12);
+        let written = is_at(rt, self.alloc, seat, Write::Topic("u"), 12);
         let both = shows(seat, 12, &["t"]) && shows(seat, 14, &["t", "u"]);
-        let records = count_records(seat, 12) == Some(7)
-            && count_records(seat, 14) == Some(9)
-            && !self.has_topic(seat, 12, "u")?
-            && self.has_topic(seat, 14, "u")?
-            && seat.loads() == 0;
+        let records = self.has_records(seat)?;
         let given_back = seat.unpin(rt, 12).is_ok() && seat.pins() == 0;
-        let more = is_at(rt, seat, &topic(self.alloc, "v")?, 14);
+        let more = is_at(rt, self.alloc, seat, Write::Topic("v"), 14);
         Ok(pinned && written && both && records && given_back && more && is_gone(seat))
     }
 }
@@ -88,10 +98,8 @@ fn is_gone(seat: &mut ClientSeat) -> bool {
 #[test]
 fn a_pinned_place_is_kept(rt: HostRuntime) -> Result<(), Fail> {
     let alloc = rt.alloc();
-    let signs = Signs::new();
-    let mut quorum = TellingQuorum::new(alloc, Vec::new(alloc), &signs)?;
     let part = PinnedPlace { alloc };
-    assert!(rt; serve(&rt, alloc, 1, &mut OpenGate, &mut quorum, &part)?);
+    assert!(rt; serve(&rt, alloc, 1, &mut OpenGate, COMMITS, &part)?.is_some());
     Ok(())
 }
 
@@ -120,19 +128,15 @@ impl SixteenPlaces {
     // The end is pinned, and then something is written there.
     fn is_pinned<R: Wait>(&self, rt: &R, seat: &mut ClientSeat, place: u32) -> bool {
         let at = i64::from(place);
-        match setting(self.alloc, u64::from(place) + 1) {
-            Ok(call) => seat.pin(rt) == Ok(at) && is_at(rt, seat, &call, at),
-            Err(_) => false,
-        }
+        let write = Write::Setting(u64::from(place) + 1);
+        seat.pin(rt) == Ok(at) && is_at(rt, self.alloc, seat, write, at)
     }
 }
 
 #[test]
 fn a_seat_holds_sixteen_places(rt: HostRuntime) -> Result<(), Fail> {
     let alloc = rt.alloc();
-    let signs = Signs::new();
-    let mut quorum = TellingQuorum::new(alloc, Vec::new(alloc), &signs)?;
     let part = SixteenPlaces { alloc };
-    assert!(rt; serve(&rt, alloc, 1, &mut OpenGate, &mut quorum, &part)?);
+    assert!(rt; serve(&rt, alloc, 1, &mut OpenGate, COMMITS, &part)?.is_some());
     Ok(())
 }

@@ -1,9 +1,9 @@
 //! A stop ends the writes that wait.
 
-use crate::calls::registration;
-use crate::threads::{Part, Signs, TellingQuorum, serve};
+use crate::calls::{Told, Write, answer_to};
+use crate::threads::{Part, Plan, serve};
 use kr_base::OpenGate;
-use kr_shared::{ClientSeat, SubmitFault};
+use kr_shared::ClientSeat;
 use std::alloc::Global;
 use std::sync::Wait;
 use std::test::Fail;
@@ -16,23 +16,23 @@ struct EndedWrites {
 
 impl Part for EndedWrites {
     fn play<R: Wait>(&self, rt: &R, seat: &mut ClientSeat) -> bool {
-        match registration(self.alloc, 1) {
-            Ok(call) => match seat.submit(rt, &call) {
-                Err(SubmitFault::Ended { number }) => number == 1,
-                _ => false,
-            },
-            Err(_) => false,
-        }
+        matches!(
+            answer_to(rt, self.alloc, seat, Write::Register(1)),
+            Told::Stop(1)
+        )
     }
 }
 
 #[test]
 fn a_stop_ends_the_writes_that_wait(rt: HostRuntime) -> Result<(), Fail> {
     let alloc = rt.alloc();
-    let signs = Signs::new();
-    let mut quorum = TellingQuorum::stopped_after(alloc, 3, &signs)?;
-    let part = EndedWrites { alloc };
-    assert!(rt; serve(&rt, alloc, 3, &mut OpenGate, &mut quorum, &part)?);
-    assert_eq!(rt; quorum.kept.calls(), 3);
+    let plan = Plan {
+        failing: 0,
+        last: 3,
+    };
+    match serve(&rt, alloc, 3, &mut OpenGate, plan, &EndedWrites { alloc })? {
+        Some(kept) => assert!(rt; kept.calls() == 3),
+        None => assert!(rt; false),
+    }
     Ok(())
 }

@@ -28,6 +28,8 @@ pub(crate) struct Signs {
     end: AtomicI64,
     // All clients are done, or the worker is to be stopped.
     done: AtomicBool,
+    // Something came to a client that should not.
+    is_wrong: AtomicBool,
     // Rung where the link may have something to do.
     news: Bell,
 }
@@ -37,50 +39,52 @@ impl Signs {
         Signs {
             end: AtomicI64::new(0),
             done: AtomicBool::new(false),
+            is_wrong: AtomicBool::new(false),
             news: Bell::new(),
         }
     }
 }
 
-// It keeps what is appended, and tells where the log ends.
+/// What the quorum does.
+#[derive(Clone, Copy)]
+pub(crate) struct Plan {
+    // The append of this number fails; 0 for none.
+    pub failing: u64,
+    // After so many appends the worker is stopped; at 0 once all clients are done.
+    pub last: u64,
+}
+
+/// It takes each append, and commits it.
+pub(crate) const COMMITS: Plan = Plan {
+    failing: 0,
+    last: 0,
+};
+
+// It keeps what is appended, and tells where the log ends. Where an append fails or a number of them stops the worker it tells
+// nothing, so that nothing is committed.
 #[derive(Drop)]
 pub(crate) struct TellingQuorum<'a> {
     pub kept: MemoryQuorum,
-    // It tells no end, so that nothing is committed.
-    is_silent: bool,
-    // After so many appends the worker is stopped; at 0 once all clients are done.
-    last: u64,
+    plan: Plan,
     signs: &'a Signs,
 }
 
 impl TellingQuorum<'_> {
-    // The appends of the listed numbers fail. Where there are some, nothing is committed.
     pub(crate) fn new(
         alloc: Global,
-        failing: Vec<u64>,
+        plan: Plan,
         signs: &Signs,
     ) -> Result<TellingQuorum<'_>, NoMemory> {
-        let is_silent = !failing.is_empty();
+        let failing = vec![in alloc; plan.failing]?;
         Ok(TellingQuorum {
-            is_silent,
             kept: MemoryQuorum::new(alloc, 1_000_000, 4_000, failing)?,
-            last: 0,
+            plan,
             signs,
         })
     }
 
-    // Nothing is committed, and after so many appends the worker is stopped.
-    pub(crate) fn stopped_after(
-        alloc: Global,
-        appends: u64,
-        signs: &Signs,
-    ) -> Result<TellingQuorum<'_>, NoMemory> {
-        Ok(TellingQuorum {
-            is_silent: true,
-            kept: MemoryQuorum::new(alloc, 1_000_000, 4_000, Vec::new(alloc))?,
-            last: appends,
-            signs,
-        })
+    fn is_silent(&self) -> bool {
+        self.plan.failing != 0 || self.plan.last != 0
     }
 }
 
@@ -93,10 +97,10 @@ impl Quorum for TellingQuorum<'_> {
 
     fn append(&mut self, bytes: &[u8]) -> Result<(), Failed> {
         self.kept.append(bytes)?;
-        if !self.is_silent {
+        if !self.is_silent() {
             self.signs.end.store(end_after(bytes), Ordering::SeqCst);
         }
-        if self.kept.calls() == self.last {
+        if self.kept.calls() == self.plan.last {
             self.signs.done.store(true, Ordering::SeqCst);
         }
         Ok(())
@@ -129,7 +133,7 @@ pub(crate) fn options(alloc: Global) -> Result<Options, NoMemory>
 }
 
 // Commits what is appended, until all clients are done, and then stops the worker. True where nothing failed.
-fn commit_all<R: Wait>(rt: &R, mut link: LinkSeat, signs: &Signs) -> bool {
+fn commit_all<R: Wait>(rt: &R, link: &mut LinkSeat, signs: &Signs) -> bool {
     let mut committed = 0i64;
     for _ in rt.forever() {
         let seen = signs.news.number(rt);
@@ -148,35 +152,44 @@ fn commit_all<R: Wait>(rt: &R, mut link: LinkSeat, signs: &Signs) -> bool {
     unreachable!()
 }
 
-// Each client plays on a thread of its own, and the link hears when all are done. True where all came as it should.
-fn play_all<R: Threads + Wait + Sync, P: Part + Sync>(
-    rt: &R,
-    seats: Vec<ClientSeat>,
-    part: &P,
-    signs: &Signs,
-) -> bool {
-    let played = thread::map_vec(rt, seats, &|mut seat: ClientSeat| part.play(rt, &mut seat));
-    signs.done.store(true, Ordering::SeqCst);
-    signs.news.ring(rt);
-    match played {
-        Ok(played) => played.as_slice().iter().all(|fine| *fine),
-        Err(_) => false,
+fn play<R: Wait, P: Part>(rt: &R, seat: &mut ClientSeat, part: &P, signs: &Signs) {
+    if !part.play(rt, seat) {
+        signs.is_wrong.store(true, Ordering::SeqCst);
     }
 }
 
+// Each client plays on a thread of its own, and the link hears when all are done.
+fn play_all<R: Threads + Wait + Sync, P: Part + Sync>(
+    rt: &R,
+    seats: &mut Vec<ClientSeat>,
+    part: &P,
+    signs: &Signs,
+) {
+    let threads = seats.len().max(1);
+    thread::for_each_mut(
+        rt,
+        seats,
+        threads,
+        &|_, seat: &mut ClientSeat| { play(rt, seat, part, signs) },
+    );
+    signs.done.store(true, Ordering::SeqCst);
+    signs.news.ring(rt);
+}
+
+// True where all came as it should.
 fn play_and_commit<R: Threads + Wait + Sync, P: Part + Sync>(
     rt: &R,
-    link: LinkSeat,
-    seats: Vec<ClientSeat>,
+    link: &mut LinkSeat,
+    seats: &mut Vec<ClientSeat>,
     part: &P,
     signs: &Signs,
 ) -> bool {
-    let (committed, played) = thread::join(
+    let (committed, ()) = thread::join(
         rt,
-        move || commit_all(rt, link, signs),
-        move || play_all(rt, seats, part, signs),
+        || commit_all(rt, link, signs),
+        || play_all(rt, seats, part, signs),
     );
-    committed && played
+    committed && !signs.is_wrong.load(Ordering::SeqCst)
 }
 
 // Turns until the stop comes. Where no job is left, the link hears of it. True where nothing failed.
@@ -209,8 +222,8 @@ fn turn_beside<R: Threads + Wait + Sync, G: Gate, P: Part + Sync>(
     rt: &R,
     alloc: Global,
     worker: &mut WorkerSeat,
-    link: LinkSeat,
-    seats: Vec<ClientSeat>,
+    link: &mut LinkSeat,
+    seats: &mut Vec<ClientSeat>,
     gate: &mut G,
     quorum: &mut TellingQuorum<'_>,
     part: &P,
@@ -218,7 +231,7 @@ fn turn_beside<R: Threads + Wait + Sync, G: Gate, P: Part + Sync>(
     let signs = quorum.signs;
     let (played, turned) = thread::join(
         rt,
-        move || play_and_commit(rt, link, seats, part, signs),
+        || play_and_commit(rt, link, seats, part, signs),
         || turn_all(rt, alloc, worker, gate, quorum),
     );
     played && turned
@@ -234,7 +247,7 @@ fn lead<R: Wait>(rt: &R, link: &mut LinkSeat) -> bool {
 }
 
 // A controller that leads from place 0 on serves so many clients, which play their parts. True where all came as it should.
-pub(crate) fn serve<R: Threads + Wait + Sync, G: Gate, P: Part + Sync>(
+fn is_served<R: Threads + Wait + Sync, G: Gate, P: Part + Sync>(
     rt: &R,
     alloc: Global,
     clients: u32,
@@ -250,8 +263,35 @@ pub(crate) fn serve<R: Threads + Wait + Sync, G: Gate, P: Part + Sync>(
         return Ok(false);
     };
     let leads = lead(rt, &mut link);
-    let seats = seats.into_vec();
-    let played = turn_beside(rt, alloc, &mut worker, link, seats, gate, quorum, part);
+    let mut seats = seats.into_vec();
+    let played = turn_beside(
+        rt,
+        alloc,
+        &mut worker,
+        &mut link,
+        &mut seats,
+        gate,
+        quorum,
+        part,
+    );
     worker.close(rt);
     Ok(leads && played)
+}
+
+/// What a quorum kept that followed the plan; none where something came that should not.
+pub(crate) fn serve<R: Threads + Wait + Sync, G: Gate, P: Part + Sync>(
+    rt: &R,
+    alloc: Global,
+    clients: u32,
+    gate: &mut G,
+    plan: Plan,
+    part: &P,
+) -> Result<Option<MemoryQuorum>, NoMemory>
+    requires { (0 < clients) × (clients ≤ 64) }
+{
+    let signs = Signs::new();
+    let mut quorum = TellingQuorum::new(alloc, plan, &signs)?;
+    let served = is_served(rt, alloc, clients, gate, &mut quorum, part)?;
+    let TellingQuorum { kept, .. } = quorum;
+    Ok(if served { Some(kept) } else { None })
 }

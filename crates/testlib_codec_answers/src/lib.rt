@@ -1,4 +1,4 @@
-//! What readers and writers of bytes answer, in words, and what a session, a fold, a dump and a balance over memory write.
+//! Rows on readers and writers of bytes, on sessions, folds, dumps and balances over memory: what they ask, and the answers in words.
 #![tactic(auto)]
 
 mod balances;
@@ -10,13 +10,10 @@ mod images;
 mod messages;
 mod primitives;
 mod records;
+mod rows;
 mod sessions;
 
-pub use balances::balance_answer;
-pub use batches::batch_answer;
-pub use folds::{dump_answer, fold_answer};
-pub use images::{Unanswered, image_answer};
-pub use messages::message_answer;
-pub use primitives::{Primitive, primitive_answer};
-pub use records::record_answer;
-pub use sessions::session_answer;
+pub use rows::{
+    balance_row, batch_row, dump_row, fold_row, image_row, message_row, primitive_row, record_row,
+    session_row,
+};

@@ -2,5 +2,5 @@ use denote.Param.Send.{arg_send, param_send}
 use Rattle.kr_shared.proofs.Sent.{client_send}
 use Rattle.test_threads.proofs.threads.play_all.Goals as goal
 
-pub map_vec-played-requires-send-J : goal.map_vec-played-requires-send-J
-map_vec-played-requires-send-J g c κs within = search (param_send, arg_send, client_send) depth 8
+pub for_each_mut-requires-send-T : goal.for_each_mut-requires-send-T
+for_each_mut-requires-send-T g c κs within = search (param_send, arg_send, client_send) depth 8

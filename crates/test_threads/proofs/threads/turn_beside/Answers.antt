@@ -18,7 +18,7 @@ clients_send : IsSend (Vec.the_row client_row Heap.the_row ghosts)
 clients_send = heap.Vec-send client_row client_send
 
 -- what the closure takes along: the link, the seats, and references to what threads may share; without the call's other facts, over which a search goes on too long
-taken_along : (g : Over) (κs : Lfts 15) → IsSync (param 0 g.row.R) → IsSync (param 2 g.row.P)
+taken_along : (g : Over) (κs : Lfts 17) → IsSync (param 0 g.row.R) → IsSync (param 2 g.row.P)
     → IsSend (param 1 (types.arg-0-1 g.row.R g.row.G g.row.P g.R.laws g.G.laws g.P.laws g.R.Threads-dict g.R.Wait-dict g.G.Gate-dict g.P.Part-dict κs))
 taken_along g κs runtime part = search (sendable, declared_send, clients_send, link.the_send, signs.the_sync) depth 20
 

@@ -1,14 +1,18 @@
 //! Rows on readers and writers of bytes, and on sessions, folds, dumps and balances.
 
+use crate::balances::balance_answer;
+use crate::batches::batch_answer;
+use crate::folds::{dump_answer, fold_answer};
+use crate::images::{Unanswered, image_answer};
+use crate::messages::message_answer;
+use crate::primitives::{Primitive, primitive_answer};
+use crate::records::record_answer;
+use crate::sessions::session_answer;
 use std::alloc::{AllocError, Global};
-use testlib_codec_answers::{
-    Primitive, Unanswered, balance_answer, batch_answer, dump_answer, fold_answer, image_answer,
-    message_answer, primitive_answer, record_answer, session_answer,
-};
 use testlib_words::{Fields, RowFault};
 
-/// A reader and bytes; for `tag` the last tag behind them, `.` for none.
-pub(crate) fn primitive_row(alloc: Global, fields: &mut Fields) -> Result<String, RowFault> {
+/// A reader and bytes, for `tag` the last tag behind them, `.` for none: the value, what is written for it, and how many bytes are left.
+pub fn primitive_row(alloc: Global, fields: &mut Fields) -> Result<String, RowFault> {
     let reader = fields.word()?;
     let bytes = fields.bytes(alloc)?;
     let primitive = primitive_of(reader, fields)?;
@@ -59,27 +63,32 @@ fn other_of(reader: &str) -> Option<Primitive> {
     }
 }
 
-pub(crate) fn record_row(alloc: Global, fields: &mut Fields) -> Result<String, RowFault> {
+/// A record: its bytes as they are written.
+pub fn record_row(alloc: Global, fields: &mut Fields) -> Result<String, RowFault> {
     let bytes = fields.bytes(alloc)?;
     Ok(record_answer(alloc, &bytes)?)
 }
 
-pub(crate) fn batch_row(alloc: Global, fields: &mut Fields) -> Result<String, RowFault> {
+/// A batch: its head, and its bytes as they are written.
+pub fn batch_row(alloc: Global, fields: &mut Fields) -> Result<String, RowFault> {
     let bytes = fields.bytes(alloc)?;
     Ok(batch_answer(alloc, &bytes)?)
 }
 
-pub(crate) fn session_row(alloc: Global, fields: &mut Fields) -> Result<String, RowFault> {
+/// What comes in over a session: what is written, and how it ends.
+pub fn session_row(alloc: Global, fields: &mut Fields) -> Result<String, RowFault> {
     let bytes = fields.bytes(alloc)?;
     Ok(session_answer(alloc, bytes)?)
 }
 
-pub(crate) fn message_row(alloc: Global, fields: &mut Fields) -> Result<String, RowFault> {
+/// A message: the reply that refuses it.
+pub fn message_row(alloc: Global, fields: &mut Fields) -> Result<String, RowFault> {
     let bytes = fields.bytes(alloc)?;
     Ok(message_answer(alloc, &bytes)?)
 }
 
-pub(crate) fn image_row(alloc: Global, fields: &mut Fields) -> Result<String, RowFault> {
+/// An image: its bytes as they are written.
+pub fn image_row(alloc: Global, fields: &mut Fields) -> Result<String, RowFault> {
     let bytes = fields.bytes(alloc)?;
     match image_answer(alloc, &bytes) {
         Ok(answer) => Ok(answer),
@@ -93,18 +102,20 @@ fn differing_text(alloc: Global, most: usize) -> Result<String, AllocError> {
     format!(in alloc; "another answer in pieces of {most} bytes")
 }
 
-pub(crate) fn fold_row(alloc: Global, fields: &mut Fields) -> Result<String, RowFault> {
+/// A log: its image.
+pub fn fold_row(alloc: Global, fields: &mut Fields) -> Result<String, RowFault> {
     let bytes = fields.bytes(alloc)?;
     Ok(fold_answer(alloc, bytes)?)
 }
 
-pub(crate) fn dump_row(alloc: Global, fields: &mut Fields) -> Result<String, RowFault> {
+/// An image: its lines.
+pub fn dump_row(alloc: Global, fields: &mut Fields) -> Result<String, RowFault> {
     let bytes = fields.bytes(alloc)?;
     dump_answer(alloc, bytes)
 }
 
-/// A percentage and an image.
-pub(crate) fn balance_row(alloc: Global, fields: &mut Fields) -> Result<String, RowFault> {
+/// A percentage and an image: what is asked for the balance of its leaders.
+pub fn balance_row(alloc: Global, fields: &mut Fields) -> Result<String, RowFault> {
     let percent = fields.number()?;
     let bytes = fields.bytes(alloc)?;
     Ok(balance_answer(alloc, percent, bytes)?)

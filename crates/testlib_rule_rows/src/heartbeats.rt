@@ -8,8 +8,8 @@ use testlib_words::{Fields, RowFault};
 /// A row has at most so many operations.
 pub(crate) const MOST_OPERATIONS: u32 = 2_000;
 
-/// Operations, each a word and what it is told.
-pub(crate) fn heartbeats_row(alloc: Global, fields: &mut Fields) -> Result<String, RowFault> {
+/// Operations, each a word and what it is told: the contacts and the stopping brokers after them.
+pub fn heartbeats_row(alloc: Global, fields: &mut Fields) -> Result<String, RowFault> {
     let mut operations = Vec::new(alloc);
     push_operations(alloc, fields, &mut operations)?;
     heartbeats_answer(alloc, &operations)

@@ -6,7 +6,7 @@ use kr_image::ImageStore;
 use kr_store::{At, Store};
 use std::alloc::{AllocError, Global};
 use testlib_rule_answers::partition_text;
-use testlib_words::halves;
+use testlib_words::{bool_word, halves};
 
 // A walk passes at most so many entries.
 const MOST_ENTRIES: u32 = 20_000;
@@ -52,10 +52,9 @@ fn tell_feature(
 ) -> Result<(), AllocError> {
     match store.feature(at, name) {
         Ok(Some(level)) => {
-            let level = *level;
             answers.begin()?;
             push_named("feature", name.as_str(), answers)?;
-            answers.push(&format!(in alloc; "{level}")?)
+            answers.push_number(alloc, "", i64::from(*level))
         }
         _ => Ok(()),
     }
@@ -63,10 +62,7 @@ fn tell_feature(
 
 // A word, a name in quotes, and a space.
 fn push_named(word: &str, name: &str, answers: &mut Answers) -> Result<(), AllocError> {
-    answers.push(word)?;
-    answers.push(" \"")?;
-    answers.push(name)?;
-    answers.push("\" ")
+    answers.push_all(&[word, " \"", name, "\" "])
 }
 
 fn tell_brokers(
@@ -108,12 +104,22 @@ fn push_broker(
     broker: &Broker,
     answers: &mut Answers,
 ) -> Result<(), AllocError> {
-    let epoch = broker.epoch;
-    answers.push(&format!(in alloc; "broker {id} epoch {epoch} ")?)?;
-    push_id(alloc, broker.incarnation, answers)?;
-    push_state(alloc, broker, answers)?;
+    answers.push_number(alloc, "broker ", i64::from(id))?;
+    push_registration(alloc, broker, answers)?;
     push_endpoints(alloc, broker.endpoints.as_slice(), answers)?;
     push_ranges(alloc, broker.features.as_slice(), answers)
+}
+
+// Its epoch and incarnation, whether it is fenced and stopping, and its rack.
+fn push_registration(
+    alloc: Global,
+    broker: &Broker,
+    answers: &mut Answers,
+) -> Result<(), AllocError> {
+    answers.push_number(alloc, " epoch ", broker.epoch)?;
+    answers.push(" ")?;
+    push_id(alloc, broker.incarnation, answers)?;
+    push_state(broker, answers)
 }
 
 // The high and the low 64 bits.
@@ -123,9 +129,9 @@ fn push_id(alloc: Global, id: u128, answers: &mut Answers) -> Result<(), AllocEr
 }
 
 // Whether it is fenced and stopping, and its rack.
-fn push_state(alloc: Global, broker: &Broker, answers: &mut Answers) -> Result<(), AllocError> {
-    let (fenced, stopping) = (broker.fenced, broker.stopping);
-    answers.push(&format!(in alloc; " fenced {fenced} stopping {stopping} ")?)?;
+fn push_state(broker: &Broker, answers: &mut Answers) -> Result<(), AllocError> {
+    let (fenced, stopping) = (bool_word(broker.fenced), bool_word(broker.stopping));
+    answers.push_all(&[" fenced ", fenced, " stopping ", stopping, " "])?;
     match &broker.rack {
         Some(rack) => push_named("rack", rack.as_str(), answers),
         None => answers.push("rack - "),
@@ -150,9 +156,9 @@ fn push_endpoint(
     endpoint: &Endpoint,
     answers: &mut Answers,
 ) -> Result<(), AllocError> {
-    let (name, host) = (endpoint.name.as_str(), endpoint.host.as_str());
-    let (port, protocol) = (endpoint.port, endpoint.protocol);
-    answers.push(&format!(in alloc; " {name}@{host}:{port}/{protocol}")?)
+    answers.push_all(&[" ", endpoint.name.as_str(), "@", endpoint.host.as_str()])?;
+    answers.push_number(alloc, ":", i64::from(endpoint.port))?;
+    answers.push_number(alloc, "/", i64::from(endpoint.protocol))
 }
 
 // Each behind a space.
@@ -165,8 +171,9 @@ fn push_ranges(alloc: Global, ranges: &[Range], answers: &mut Answers) -> Result
 }
 
 fn push_range(alloc: Global, range: &Range, answers: &mut Answers) -> Result<(), AllocError> {
-    let (name, min, max) = (range.name.as_str(), range.min, range.max);
-    answers.push(&format!(in alloc; " {name}@{min}:{max}")?)
+    answers.push_all(&[" ", range.name.as_str()])?;
+    answers.push_number(alloc, "@", i64::from(range.min))?;
+    answers.push_number(alloc, ":", i64::from(range.max))
 }
 
 fn tell_topics(
@@ -245,10 +252,10 @@ fn push_placed(
     partition: &Partition,
     answers: &mut Answers,
 ) -> Result<(), AllocError> {
-    let index = key.1;
     push_id(alloc, key.0, answers)?;
-    answers.push(&format!(in alloc; " {index} ")?)?;
-    answers.push(&partition_text(alloc, partition)?)
+    answers.push_number(alloc, " ", i64::from(key.1))?;
+    let state = partition_text(alloc, partition)?;
+    answers.push_all(&[" ", &state])
 }
 
 fn tell_configs(
@@ -277,7 +284,7 @@ fn tell_config(
 ) -> Result<(), AllocError> {
     match store.config(at, key) {
         Ok(Some(value)) => {
-            answers.add("config ")?;
+            answers.begin()?;
             push_config(alloc, key, value.as_str(), answers)
         }
         _ => Ok(()),
@@ -290,10 +297,7 @@ fn push_config(
     value: &str,
     answers: &mut Answers,
 ) -> Result<(), AllocError> {
-    let kind = key.kind;
-    push_named(&format!(in alloc; "{kind}")?, key.name.as_str(), answers)?;
-    for word in ["\"", key.key.as_str(), "\" \"", value, "\""] {
-        answers.push(word)?;
-    }
-    Ok(())
+    answers.push_number(alloc, "config ", i64::from(key.kind))?;
+    let (name, of) = (key.name.as_str(), key.key.as_str());
+    answers.push_all(&[" \"", name, "\" \"", of, "\" \"", value, "\""])
 }

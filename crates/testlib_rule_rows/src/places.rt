@@ -6,8 +6,8 @@ use std::alloc::Global;
 use testlib_rule_answers::place_answer;
 use testlib_words::{Fields, RowFault, number_of};
 
-/// The brokers with their racks, the start, the index and the factor.
-pub(crate) fn place_row(alloc: Global, fields: &mut Fields) -> Result<String, RowFault> {
+/// The brokers with their racks, the start, the index and the factor: the brokers that are chosen.
+pub fn place_row(alloc: Global, fields: &mut Fields) -> Result<String, RowFault> {
     let mut brokers = Racked::new(alloc);
     push_brokers(alloc, fields.word()?, &mut brokers)?;
     let start = fields.number()?;

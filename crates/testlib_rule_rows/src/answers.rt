@@ -27,6 +27,25 @@ impl Answers {
         self.text.push_str(words)
     }
 
+    pub(crate) fn push_all(&mut self, pieces: &[&str]) -> Result<(), AllocError> {
+        for piece in pieces {
+            self.push(piece)?;
+        }
+        Ok(())
+    }
+
+    /// The words, and behind them the number.
+    pub(crate) fn push_number(
+        &mut self,
+        alloc: Global,
+        words: &str,
+        number: i64,
+    ) -> Result<(), AllocError> {
+        self.push(words)?;
+        let digits = format!(in alloc; "{number}")?;
+        self.push(&digits)
+    }
+
     pub(crate) fn add(&mut self, words: &str) -> Result<(), AllocError> {
         self.begin()?;
         self.push(words)

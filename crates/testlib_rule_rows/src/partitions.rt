@@ -1,4 +1,4 @@
-//! Rows on changes of partitions.
+//! Rows on partitions.
 
 use kr_defs::{Facts, Ids, Mode, Partition, PartitionChange, Want};
 use std::alloc::Global;
@@ -7,10 +7,30 @@ use testlib_rule_answers::{
 };
 use testlib_words::{Fields, RowFault};
 
-/// A partition, and what is asked of it.
+/// What is asked of a partition.
+#[derive(Clone, Copy)]
+pub enum Question {
+    /// The partition, a bar and a change: the partition after it.
+    Merge,
+    /// The partition: the replicas that its reassignment leads to.
+    Target,
+    /// The replicas, those added, those removed and those in sync: whether the reassignment completes.
+    Completes,
+    /// The partition, a bar, the replicas, those in sync, the minimum and a restarted broker: the eligible and the last known
+    /// replicas.
+    Eligible,
+    /// The partition, a bar, the replicas, those in sync, the mode and a restarted broker, and the facts: the leader, and among
+    /// whom it was found.
+    Elect,
+    /// The partition, a bar, what is to come of it, and the facts: the change.
+    Build,
+}
+
+// A partition, and what is asked of it.
 #[derive(Drop)]
 struct Asked {
     partition: Partition,
+    change: PartitionChange,
     want: Want,
     facts: Facts,
 }
@@ -67,6 +87,7 @@ impl Asked {
     fn nothing(alloc: Global) -> Asked {
         Asked {
             partition: no_partition(alloc),
+            change: no_change(),
             want: no_want(alloc),
             facts: no_facts(alloc),
         }
@@ -108,10 +129,7 @@ fn read_change(
     fields: &mut Fields,
     change: &mut PartitionChange,
 ) -> Result<(), RowFault> {
-    change.in_sync = fields.ids_or_none(alloc)?;
-    change.replicas = fields.ids_or_none(alloc)?;
-    change.removing = fields.ids_or_none(alloc)?;
-    change.adding = fields.ids_or_none(alloc)?;
+    read_changed_lists(alloc, fields, change)?;
     change.eligible = fields.ids_or_none(alloc)?;
     change.last_known = fields.ids_or_none(alloc)?;
     change.leader = fields.number_or_none()?;
@@ -119,53 +137,84 @@ fn read_change(
     Ok(())
 }
 
-// The lists that are asked for, recovery and mode, and a broker that has restarted uncleanly.
-fn read_want(fields: &mut Fields, want: &mut Want) -> Result<(), RowFault> {
-    fields.ids(&mut want.replicas)?;
-    fields.ids(&mut want.adding)?;
-    fields.ids(&mut want.removing)?;
-    fields.ids(&mut want.in_sync)?;
-    want.recovery = fields.number()?;
-    want.mode = read_mode(fields)?;
-    want.restarted = fields.number_or_none()?;
+fn read_changed_lists(
+    alloc: Global,
+    fields: &mut Fields,
+    change: &mut PartitionChange,
+) -> Result<(), RowFault> {
+    change.in_sync = fields.ids_or_none(alloc)?;
+    change.replicas = fields.ids_or_none(alloc)?;
+    change.removing = fields.ids_or_none(alloc)?;
+    change.adding = fields.ids_or_none(alloc)?;
     Ok(())
 }
 
-// The active brokers, whether unclean election is on, and the least number in sync.
-fn read_facts(fields: &mut Fields, facts: &mut Facts) -> Result<(), RowFault> {
-    fields.ids(&mut facts.active)?;
-    facts.unclean = fields.number()?;
-    facts.minimum = fields.number()?;
-    Ok(())
-}
-
-/// PARTITION / CHANGE
-pub(crate) fn merge_row(alloc: Global, fields: &mut Fields) -> Result<String, RowFault> {
-    let mut partition = no_partition(alloc);
-    read_partition(fields, &mut partition)?;
-    fields.bar()?;
-    let mut change = no_change();
-    read_change(alloc, fields, &mut change)?;
-    Ok(merge_answer(alloc, &partition, &change)?)
-}
-
-pub(crate) fn target_row(alloc: Global, fields: &mut Fields) -> Result<String, RowFault> {
-    let mut partition = no_partition(alloc);
-    read_partition(fields, &mut partition)?;
-    Ok(target_answer(alloc, &partition)?)
-}
-
-// The replicas, those added, those removed and those in sync.
-fn read_reassignment(fields: &mut Fields, want: &mut Want) -> Result<(), RowFault> {
+// The replicas that are asked for, those to be added and to be removed, and those in sync.
+fn read_wanted(fields: &mut Fields, want: &mut Want) -> Result<(), RowFault> {
     fields.ids(&mut want.replicas)?;
     fields.ids(&mut want.adding)?;
     fields.ids(&mut want.removing)?;
     fields.ids(&mut want.in_sync)
 }
 
-pub(crate) fn completes_row(alloc: Global, fields: &mut Fields) -> Result<String, RowFault> {
-    let mut want = no_want(alloc);
-    read_reassignment(fields, &mut want)?;
+// The lists that are asked for, recovery and mode, and a broker that has restarted uncleanly.
+fn read_want(fields: &mut Fields, want: &mut Want) -> Result<(), RowFault> {
+    read_wanted(fields, want)?;
+    want.recovery = fields.number()?;
+    want.mode = read_mode(fields)?;
+    want.restarted = fields.number_or_none()?;
+    Ok(())
+}
+
+// Behind a bar the active brokers, whether unclean election is on, and the least number in sync.
+fn read_facts(fields: &mut Fields, facts: &mut Facts) -> Result<(), RowFault> {
+    fields.bar()?;
+    fields.ids(&mut facts.active)?;
+    facts.unclean = fields.number()?;
+    facts.minimum = fields.number()?;
+    Ok(())
+}
+
+/// The answer to the question, whose fields these are.
+pub fn change_row(
+    alloc: Global,
+    question: Question,
+    fields: &mut Fields,
+) -> Result<String, RowFault> {
+    let mut asked = Asked::nothing(alloc);
+    answer(alloc, question, fields, &mut asked)
+}
+
+fn answer(
+    alloc: Global,
+    question: Question,
+    fields: &mut Fields,
+    asked: &mut Asked,
+) -> Result<String, RowFault> {
+    match question {
+        Question::Merge => merge(alloc, fields, asked),
+        Question::Target => target(alloc, fields, asked),
+        Question::Completes => completes(alloc, fields, &mut asked.want),
+        Question::Eligible => eligible(alloc, fields, asked),
+        Question::Elect => elect(alloc, fields, asked),
+        Question::Build => build(alloc, fields, asked),
+    }
+}
+
+fn merge(alloc: Global, fields: &mut Fields, asked: &mut Asked) -> Result<String, RowFault> {
+    read_partition(fields, &mut asked.partition)?;
+    fields.bar()?;
+    read_change(alloc, fields, &mut asked.change)?;
+    Ok(merge_answer(alloc, &asked.partition, &asked.change)?)
+}
+
+fn target(alloc: Global, fields: &mut Fields, asked: &mut Asked) -> Result<String, RowFault> {
+    read_partition(fields, &mut asked.partition)?;
+    Ok(target_answer(alloc, &asked.partition)?)
+}
+
+fn completes(alloc: Global, fields: &mut Fields, want: &mut Want) -> Result<String, RowFault> {
+    read_wanted(fields, want)?;
     Ok(completes_answer(
         alloc,
         &want.replicas,
@@ -175,20 +224,10 @@ pub(crate) fn completes_row(alloc: Global, fields: &mut Fields) -> Result<String
     )?)
 }
 
-// PARTITION / the replicas, those in sync, the minimum and a restarted broker.
-fn read_standing_by(fields: &mut Fields, asked: &mut Asked) -> Result<(), RowFault> {
-    read_partition(fields, &mut asked.partition)?;
-    fields.bar()?;
-    fields.ids(&mut asked.want.replicas)?;
-    fields.ids(&mut asked.want.in_sync)?;
+fn eligible(alloc: Global, fields: &mut Fields, asked: &mut Asked) -> Result<String, RowFault> {
+    read_standing_by(fields, asked)?;
     asked.facts.minimum = fields.number()?;
     asked.want.restarted = fields.number_or_none()?;
-    Ok(())
-}
-
-pub(crate) fn eligible_row(alloc: Global, fields: &mut Fields) -> Result<String, RowFault> {
-    let mut asked = Asked::nothing(alloc);
-    read_standing_by(fields, &mut asked)?;
     Ok(eligible_answer(
         alloc,
         &asked.partition,
@@ -199,21 +238,19 @@ pub(crate) fn eligible_row(alloc: Global, fields: &mut Fields) -> Result<String,
     )?)
 }
 
-// PARTITION / the replicas, those in sync, the mode and a restarted broker / FACTS
-fn read_election(fields: &mut Fields, asked: &mut Asked) -> Result<(), RowFault> {
+// A partition, a bar, the replicas and those in sync.
+fn read_standing_by(fields: &mut Fields, asked: &mut Asked) -> Result<(), RowFault> {
     read_partition(fields, &mut asked.partition)?;
     fields.bar()?;
     fields.ids(&mut asked.want.replicas)?;
-    fields.ids(&mut asked.want.in_sync)?;
-    asked.want.mode = read_mode(fields)?;
-    asked.want.restarted = fields.number_or_none()?;
-    fields.bar()?;
-    read_facts(fields, &mut asked.facts)
+    fields.ids(&mut asked.want.in_sync)
 }
 
-pub(crate) fn elect_row(alloc: Global, fields: &mut Fields) -> Result<String, RowFault> {
-    let mut asked = Asked::nothing(alloc);
-    read_election(fields, &mut asked)?;
+fn elect(alloc: Global, fields: &mut Fields, asked: &mut Asked) -> Result<String, RowFault> {
+    read_standing_by(fields, asked)?;
+    asked.want.mode = read_mode(fields)?;
+    asked.want.restarted = fields.number_or_none()?;
+    read_facts(fields, &mut asked.facts)?;
     Ok(elect_answer(
         alloc,
         &asked.partition,
@@ -225,17 +262,10 @@ pub(crate) fn elect_row(alloc: Global, fields: &mut Fields) -> Result<String, Ro
     )?)
 }
 
-// PARTITION / WANT / FACTS
-fn read_build(fields: &mut Fields, asked: &mut Asked) -> Result<(), RowFault> {
+fn build(alloc: Global, fields: &mut Fields, asked: &mut Asked) -> Result<String, RowFault> {
     read_partition(fields, &mut asked.partition)?;
     fields.bar()?;
     read_want(fields, &mut asked.want)?;
-    fields.bar()?;
-    read_facts(fields, &mut asked.facts)
-}
-
-pub(crate) fn build_row(alloc: Global, fields: &mut Fields) -> Result<String, RowFault> {
-    let mut asked = Asked::nothing(alloc);
-    read_build(fields, &mut asked)?;
+    read_facts(fields, &mut asked.facts)?;
     Ok(build_answer(alloc, &asked.partition, &asked.want, &asked.facts)?)
 }

@@ -15,30 +15,36 @@ use std::sync::ledger::{Blank, Ledger};
 use testlib_rule_answers::{History, record_of};
 use testlib_words::{Fields, RowFault};
 
-/// A store that is told and asked, the place of its next record, and the answers.
+// A store that is told and asked, the place of its next record, and the answers.
 #[derive(Drop)]
-struct Told {
-    history: History,
+struct Told<'a> {
+    history: &'a mut History,
     place: i64,
-    answers: Answers,
+    answers: &'a mut Answers,
 }
 
 /// What a store is told and asked, each a word and what belongs to it. The first record stands at place 0, each other
 /// behind the last that has a meaning.
-pub(crate) fn apply_row(alloc: Global, fields: &mut Fields) -> Result<String, RowFault> {
+pub fn apply_row(alloc: Global, fields: &mut Fields) -> Result<String, RowFault> {
+    let mut answers = Answers::new(alloc);
+    tell_store(alloc, fields, &mut answers)?;
+    Ok(answers.text(alloc)?)
+}
+
+fn tell_store(alloc: Global, fields: &mut Fields, answers: &mut Answers) -> Result<(), RowFault> {
+    let mut history = History::new(alloc);
     let mut told = Told {
-        history: History::new(alloc),
+        history: &mut history,
         place: 0,
-        answers: Answers::new(alloc),
+        answers,
     };
-    tell_all::<Brand>(alloc, fields, &mut told, Blank::new(1))?;
-    Ok(told.answers.text(alloc)?)
+    tell_all::<Brand>(alloc, fields, &mut told, Blank::new(1))
 }
 
 fn tell_all<L: Ledger>(
     alloc: Global,
     fields: &mut Fields,
-    told: &mut Told,
+    told: &mut Told<'_>,
     blank: Blank,
 ) -> Result<(), RowFault>
     requires name { blank.name ≡ L.name }
@@ -55,7 +61,7 @@ fn tell_all<L: Ledger>(
     Ok(())
 }
 
-impl Told {
+impl Told<'_> {
     // Does what the next word calls for. Records are the hex of their values.
     fn tell<L: Ledger>(
         &mut self,
@@ -64,17 +70,27 @@ impl Told {
         steps: &mut Steps<L>,
     ) -> Result<(), RowFault> {
         match fields.word()? {
-            "mark" => self.history.mark(fields.number()?),
+            "mark" => self.mark(fields),
             "record" => self.apply(alloc, fields, steps),
-            "revert" => self.revert(&fields.number()?, steps),
-            "forget" => {
-                self.history.forget_below(&fields.number()?, steps);
-                Ok(())
-            }
-            "at" => self.look(alloc, At::Epoch(fields.number()?)),
+            "revert" => self.revert(fields, steps),
+            "forget" => self.forget(fields, steps),
+            "at" => self.look_at(alloc, fields),
             "tip" => self.look(alloc, At::Tip),
             _ => Err(RowFault::Fields),
         }
+    }
+
+    fn mark(&mut self, fields: &mut Fields) -> Result<(), RowFault> {
+        self.history.mark(fields.number()?)
+    }
+
+    fn forget<L: Ledger>(
+        &mut self,
+        fields: &mut Fields,
+        steps: &mut Steps<L>,
+    ) -> Result<(), RowFault> {
+        self.history.forget_below(&fields.number()?, steps);
+        Ok(())
     }
 
     fn apply<L: Ledger>(
@@ -103,18 +119,27 @@ impl Told {
         Ok(())
     }
 
-    fn revert<L: Ledger>(&mut self, epoch: &i64, steps: &mut Steps<L>) -> Result<(), RowFault> {
-        if self.history.revert(epoch, steps).is_err() {
+    fn revert<L: Ledger>(
+        &mut self,
+        fields: &mut Fields,
+        steps: &mut Steps<L>,
+    ) -> Result<(), RowFault> {
+        let epoch = fields.number()?;
+        if self.history.revert(&epoch, steps).is_err() {
             self.answers.add("NoEpoch")?;
         }
         Ok(())
+    }
+
+    fn look_at(&mut self, alloc: Global, fields: &mut Fields) -> Result<(), RowFault> {
+        self.look(alloc, At::Epoch(fields.number()?))
     }
 
     // What is looked at, and the image there.
     fn look(&mut self, alloc: Global, at: At) -> Result<(), RowFault> {
         let store = self.history.store();
         self.answers.add(&place_text(alloc, store, at)?)?;
-        tell_image(alloc, store, at, &mut self.answers)?;
+        tell_image(alloc, store, at, self.answers)?;
         Ok(())
     }
 }
