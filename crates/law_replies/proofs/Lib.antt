@@ -1,3 +1,4 @@
 pub mod LimitReplies
+pub mod Losses
 pub mod OwnAnswers
 pub mod ToldApart

@@ -1,2 +1,3 @@
 pub mod LimitReplies
+pub mod Losses
 pub mod ToldApart

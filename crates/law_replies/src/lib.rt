@@ -2,6 +2,7 @@
 #![tactic(auto)]
 
 ghost use Rattle.law_replies.specs.LimitReplies.{RepliesTellLimits};
+ghost use Rattle.law_replies.specs.Losses.{NoneAtOnce, RefusedWithoutLead};
 ghost use Rattle.law_replies.specs.ToldApart.{RefusalsAreToldApart};
 
 /// An entry of a write that is decided on a valid image is answered by POLICY_VIOLATION exactly where the records that its rule
@@ -14,4 +15,11 @@ pub fn replies_tell_limits()
 /// it, unless the request asks for nothing.
 pub fn refusals_are_told_apart()
     ensures { RefusalsAreToldApart }
+{}
+
+/// By NOT_CONTROLLER a write is refused at once on standby alone; later only where the leadership that decided it has ended, unless
+/// its own reply is the same.
+pub fn refusals_tell_losses()
+    ensures at_once { NoneAtOnce }
+    ensures later { RefusedWithoutLead }
 {}

@@ -1,2 +1,3 @@
 pub mod Loss
 pub mod RecordNames
+pub mod StoppedTurns

@@ -1,4 +1,4 @@
-//! What callers do with the crates alone, an example a word: `host` steps the controller, `plan` asks the rules; of standard
+//! What callers do with the crates alone, an example a word: `host` steps the controller, `turns` turns a worker, `plan` asks the rules; of standard
 //! input `moves` reads an image and asks what a round of the balancer would move, `inspect` reads a record batch and `show` an
 //! image. With no word the examples come from standard input, a line each: the word, and behind a space the bytes that it reads,
 //! in hex. Where an example has a fault it is told, and the status is 1; other words have status 2.
@@ -15,12 +15,14 @@ mod names;
 mod plan;
 mod records;
 mod topic;
+mod turns;
 
 use example::{Example, example_of, print_example};
 use std::env;
 use std::io::{BufRead, BufReader, Input, Print, Read};
 use std::process::ExitCode;
 use std::rt::Env;
+use std::sync::Wait;
 
 // What the words behind the program's name ask for.
 #[derive(Clone, Copy)]
@@ -36,7 +38,7 @@ fn main(rt: HostRuntime) -> anyhow::Result<ExitCode> {
         Asked::One(example) => print_one(&rt, example)?,
         Asked::Stored => print_stored(&rt)?,
         Asked::Nothing => {
-            eprintln!(rt; "usage: use_examples [host | plan | moves | inspect | show]")?;
+            eprintln!(rt; "usage: use_examples [host | turns | plan | moves | inspect | show]")?;
             return Ok(ExitCode::from(2));
         }
     }
@@ -57,7 +59,10 @@ fn read_words<R: Env + AllocGlobal>(rt: &R) -> std::io::Result<Asked> {
 }
 
 // Does the example with all of standard input.
-fn print_one<R: Input + Print + AllocGlobal>(rt: &R, example: Example) -> anyhow::Result<()> {
+fn print_one<R: Input + Print + Wait + AllocGlobal>(
+    rt: &R,
+    example: Example,
+) -> anyhow::Result<()> {
     let mut bytes = Vec::new(rt.alloc());
     if example.reads() {
         rt.reader().read_to_end(&mut bytes)?;
@@ -65,14 +70,14 @@ fn print_one<R: Input + Print + AllocGlobal>(rt: &R, example: Example) -> anyhow
     print_example(rt, example, &bytes)
 }
 
-fn print_stored<R: Input + Print + AllocGlobal>(rt: &R) -> anyhow::Result<()> {
+fn print_stored<R: Input + Print + Wait + AllocGlobal>(rt: &R) -> anyhow::Result<()> {
     for line in BufReader::new(rt.alloc(), rt.reader())?.lines(rt.alloc()) {
         print_line(rt, line?.as_str())?;
     }
     Ok(())
 }
 
-fn print_line<R: Print + AllocGlobal>(rt: &R, line: &str) -> anyhow::Result<()> {
+fn print_line<R: Print + Wait + AllocGlobal>(rt: &R, line: &str) -> anyhow::Result<()> {
     let (word, digits) = line.split_once(' ').unwrap_or((line, ""));
     let Some(example) = example_of(word) else {
         anyhow::bail!("no example has the word {word}");
