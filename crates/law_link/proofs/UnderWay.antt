@@ -238,6 +238,19 @@ module _ (make : List Batch → List ℕ) where
     tip_stays d (Lost number ∷ frames) v r led never leads =
         absurd (never_leads (after_loss d) frames v r.1 (λ same. none_leads None epoch refl same) never leads)
 
+    -- and so do the batches that it has with those that it appended
+    pub joined_stays : (d : Node) (frames : List Frame) (v : Node) → Reaches make p k d frames v → d.leads ≡ Some epoch → (Has epoch (epochs_begun frames) → ⊥)
+        → v.leads ≡ Some epoch → v.batches ++ v.own ≡ d.batches ++ d.own
+    joined_stays d [] v r led never leads = ap (λ (x : Node). x.batches ++ x.own) r
+    joined_stays d (Feed b ∷ frames) v r led never leads = none_leads d.leads epoch r.0.0 led
+    joined_stays d (Load image ∷ frames) v r led never leads = none_leads d.leads epoch r.0.standby led
+    joined_stays d (Lead number end ∷ frames) v r led never leads = none_leads d.leads epoch r.0.standby led
+    joined_stays d (Commit number end ∷ frames) v r led never leads =
+        joined_stays (committed d end) frames v r.1 led never leads
+        ∙ (append_assoc d.batches (ended_batches end d.own) (unended_batches end d.own) ∙ ap (λ (bs : List Batch). d.batches ++ bs) (ended_joined end d.own))
+    joined_stays d (Lost number ∷ frames) v r led never leads =
+        absurd (never_leads (after_loss d) frames v r.1 (λ same. none_leads None epoch refl same) never leads)
+
     module _ (b : Batch) (some : 0 < b.count) where
       commit_behind : (d : Node) (number end : ℕ) → b.base ≡ behind d.end d.own → MayCommit p k d number end → MayCommit p k (written d b) number end
       commit_behind d number end base a =

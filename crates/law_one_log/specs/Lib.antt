@@ -1,0 +1,3 @@
+pub mod StoredBatches
+pub mod Daemons
+pub mod OneLog

@@ -1,0 +1,26 @@
+-- Whatever the turns were, there is one log, and all that daemons say is of it.
+use Rattle.std.specs.Prelude.{◌≡◌, ℕ, List, take, fold}
+use Rattle.std.specs.List.{AllByRecursion}
+use Rattle.kr_batch.specs.declared.Batch.{Batch}
+use Rattle.kr_defs.specs.declared.options.Options.{Options}
+use Rattle.kr_defs.specs.Image.{empty}
+use Rattle.kr_defs.specs.Log.{apply_all, image_at}
+use Rattle.law_nodes.specs.Agreement.{IsTold}
+use Rattle.law_nodes.specs.Moves.{closed_end_of, committed_end}
+use Rattle.law_nodes.specs.Nodes.{RunNode}
+use Rattle.law_nodes.specs.OneList.{Follows, list_items}
+use Rattle.law_one_log.specs.Daemons.{AllMayTurn, System, SystemTurn, log_batches, no_system, turned}
+
+-- what a daemon has below its committed end is the one log; its reads and images are of that end, where its image is the log's
+pub record ReadsOneLog (list : List Batch) (n : RunNode) : Type 0 where
+  pub follows : Follows list n.state.world.log (committed_end n)
+  pub image : image_at n.state.world.log (committed_end n) ≡ apply_all empty (take (committed_end n) (list_items list))
+  pub closed : closed_end_of n ≡ committed_end n
+
+pub record SaysOneLog (y : System) : Type 0 where
+  pub daemons : (k : ℕ) → ReadsOneLog (log_batches y) (y.daemons k)
+  -- a success has a place, at which its items stand in the log; and it stands there from then on, since all that was ever told does
+  pub told : AllByRecursion (IsTold (log_batches y)) y.told
+
+abbrev pub DaemonsSayOneLog : Type 0
+DaemonsSayOneLog = (options : Options) (turns : List SystemTurn) → AllMayTurn options no_system turns → SaysOneLog (fold (turned options) no_system turns)

@@ -1,0 +1,11 @@
+//! Daemons that are controllers, behind links that keep the rules, over one store: all that they say is of one log. The function says so in
+//! its contract, and does nothing.
+#![tactic(auto)]
+
+ghost use Rattle.law_one_log.specs.OneLog.{DaemonsSayOneLog};
+
+/// However late, twice or never the links' calls reach the store, each daemon has below its committed end what the one log has, and each
+/// success that any daemon told stands in that log at its place, from then on.
+pub fn daemons_say_one_log()
+    ensures { DaemonsSayOneLog }
+{}
