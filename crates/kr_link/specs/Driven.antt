@@ -1,0 +1,342 @@
+-- A link by its clock: when it asks and renews, pings and feeds, and what of what comes its core is told.
+use Rattle.std.specs.Prelude.{ℕ, ◌+◌, ◌-◌, ◌*◌, ◌^◌, Bool, true, false, cond, not, ◌&&◌, ◌||◌, List, [], ◌∷◌, ◌++◌, length, min, option_to_list, Option, Some, None, nat_eq, nat_le, nat_lt}
+use Rattle.std.specs.Option.{is_some, option_map_or}
+use Rattle.law_quorum.specs.Batches.{Batch, StoredImage}
+use Rattle.law_quorum.specs.Changes.{base_of_first}
+use Rattle.law_link.specs.Links.{Held as AnyHeld}
+use Rattle.law_core.specs.Core.{Appended, Came, Found, FoundImage, Imaged, Joined, LinkCore as AnyCore, Over, Role as AnyRole, Stood, Won, core_step, end_of}
+use Rattle.law_core.specs.Core as laws
+use Rattle.kr_link.specs.declared.actions.Action.{Action}
+use Rattle.kr_link.specs.declared.actions.Action.TheVariants as actions
+use Rattle.kr_link.specs.declared.actions.Frame.TheVariants as frames
+use Rattle.kr_link.specs.declared.campaigns.Campaign.{Campaign}
+use Rattle.kr_link.specs.declared.campaigns.Campaigns.{Campaigns}
+use Rattle.kr_link.specs.declared.imaging.Imaging.{Imaging}
+use Rattle.kr_link.specs.declared.imaging.ImageAnswer.{ImageAnswer}
+use Rattle.kr_link.specs.declared.imaging.ImageAnswer.TheVariants as answers
+use Rattle.kr_link.specs.declared.leases.Lease.{Lease}
+use Rattle.kr_link.specs.declared.link.Link.{Link}
+use Rattle.kr_link.specs.declared.link.Question.{Question}
+use Rattle.kr_link.specs.declared.link.Question.TheVariants as questions
+use Rattle.kr_link.specs.declared.link.Seen.{Seen}
+use Rattle.kr_link.specs.declared.link.Settings.{Settings}
+use Rattle.kr_link.specs.declared.pings.Ping.{Ping}
+use Rattle.kr_link.specs.declared.roles.Held.{Held}
+use Rattle.kr_link.specs.Clocks.{begun_with, image_settled, is_due, is_image_wanted, may_be_over, next_campaign, settled, tried_at, granted, won_with}
+use Rattle.kr_link.specs.Cores.{core_of}
+use Rattle.kr_link.specs.Outgoing.{Outgoing, put, put_all}
+use Rattle.kr_link.specs.Pings.{Pinged, answered, fed_more, is_ahead, is_answer, is_fresh, is_pinged, silence}
+use Rattle.kr_link.specs.Roles.{held_of, is_held, is_leading, is_of}
+
+pub record Driven : Type 0 where
+  pub settings : Settings
+  pub core : AnyCore
+  pub out : Outgoing
+  -- of the daemon that is connected
+  pub pings : Option Pinged
+  -- what of the store has no answer yet
+  pub question : Question
+  pub campaigns : Campaigns
+  -- of the leadership that is held
+  pub lease : Option Lease
+  -- what was seen when it was looked last
+  pub seen : Seen
+  pub imaging : Imaging
+  -- the append under way stays without an answer
+  pub is_unanswered : Bool
+  -- when the next beat is
+  pub beat : ℕ
+
+abbrev pub driven_of : Link → Driven
+driven_of l = record {
+  settings = l.settings;
+  core = core_of l.core;
+  out = l.out;
+  pings = l.pings;
+  question = l.question;
+  campaigns = l.campaigns;
+  lease = l.lease;
+  seen = l.seen;
+  imaging = l.imaging;
+  is_unanswered = l.is_unanswered;
+  beat = l.beat;
+}
+
+abbrev pub first_link : Settings → Driven
+first_link settings = record {
+  settings = settings;
+  core = laws.first_core;
+  out = record { actions = []; events = 0 };
+  pings = None;
+  question = questions.Nothing;
+  campaigns = record { next = 0; under_way = None };
+  lease = None;
+  seen = record { end = 0; is_led = false; image = 0 };
+  imaging = record { is_asked = false; at = 0; vain = 0 };
+  is_unanswered = false;
+  beat = 0;
+}
+
+-- with an action before the others
+abbrev pub with_first : Option Action → Driven → Driven
+with_first action l = record l { out = record l.out { actions = option_to_list action ++ l.out.actions } }
+
+-- ---- what it does
+
+-- its core is told, and what that does goes out
+abbrev pub told : Driven → Came → Driven
+told l came = record l { core = (core_step l.core came).0; out = put_all l.out (core_step l.core came).1 }
+
+abbrev pub puts : Driven → Action → Driven
+puts l action = record l { out = put l.out action }
+
+-- the leadership is over, or may be
+abbrev pub is_over : Driven → Driven
+is_over l = record (told l Over) { lease = None; is_unanswered = false }
+
+-- the daemon's connection is closed
+abbrev pub let_go : Driven → Driven
+let_go l = record (puts (is_over l) actions.Close) { pings = None }
+
+abbrev pub epoch_led : AnyRole → Option ℕ
+epoch_led (laws.Leading h asked waits) = Some h.epoch
+epoch_led other = None
+
+abbrev pub ping_now : Driven → ℕ → Ping
+ping_now l now = record { event = (puts l (actions.Send frames.Ping)).out.events; at = now; led = epoch_led l.core.role }
+
+abbrev pub pinged_of : Driven → ℕ → Option Pinged → Driven
+pinged_of l now None = l
+pinged_of l now (Some p) = record (puts l (actions.Send frames.Ping)) { pings = Some (record p { sent = p.sent ++ ping_now l now ∷ []; unpinged = 0 }) }
+
+abbrev pub pinged : Driven → ℕ → Driven
+pinged l now = pinged_of l now l.pings
+
+abbrev pub is_idle : Question → Bool
+is_idle questions.Nothing = true
+is_idle other = false
+
+-- it looks, unless it asks something already
+abbrev pub looks : Driven → Driven
+looks l = cond (is_idle l.question) (record (puts l actions.Look) { question = questions.Look }) l
+
+-- ---- the daemon
+
+-- a new one connected
+abbrev pub joined : Driven → ℕ → Driven
+joined l now = pinged (record (told l Joined) {
+  out = record (told l Joined).out { events = 0 };
+  pings = Some (record { sent = []; unpinged = 0; heard = None });
+  lease = None;
+  is_unanswered = false;
+  imaging = record { is_asked = false; at = 0; vain = 0 };
+}) now
+
+abbrev pub gone : Driven → Driven
+gone l = record (is_over l) { pings = None }
+
+-- where the next batch of the leadership is to begin
+abbrev pub tip_in : ℕ → AnyRole → ℕ
+tip_in fed (laws.Leading h asked waits) = end_of (end_of fed asked) waits
+tip_in fed other = fed
+
+abbrev pub is_misplaced_in : ℕ → AnyRole → Batch → Bool
+is_misplaced_in fed (laws.Leading h asked waits) b = nat_eq b.epoch h.epoch && not (nat_eq b.base (tip_in fed (laws.Leading h asked waits)))
+is_misplaced_in fed other b = false
+
+-- a daemon whose batches don't meet is let go
+abbrev pub wrote : Driven → Batch → Driven
+wrote l b = cond (is_misplaced_in l.core.fed l.core.role b) (let_go l) (told l (Appended b))
+
+-- it refused an event while it led an epoch: the answer to a ping, or it is let go
+abbrev pub refused_of : Driven → ℕ → Option ℕ → ℕ → Option Pinged → Driven
+refused_of l event led now None = l
+refused_of l event led now (Some p) = cond (is_answer p.sent event led) (looks (record l { pings = Some (answered p event led now) })) (let_go l)
+
+abbrev pub refused : Driven → ℕ → Option ℕ → ℕ → Driven
+refused l event led now = refused_of l event led now l.pings
+
+-- ---- the store
+
+abbrev pub is_ahead_of : Option Pinged → Bool
+is_ahead_of None = true
+is_ahead_of (Some p) = is_ahead p.sent
+
+abbrev pub is_fresh_of : Option Pinged → ℕ → Bool
+is_fresh_of None now = false
+is_fresh_of (Some p) now = is_fresh p now
+
+abbrev pub campaigning_by : Driven → Option Campaign → ℕ → Driven
+campaigning_by l None now = l
+campaigning_by l (Some campaign) now = record (puts l (actions.Campaign campaign.token)) { campaigns = begun_with l.campaigns now }
+
+-- it campaigns, where a token is left
+abbrev pub campaigning : Driven → ℕ → Driven
+campaigning l now = campaigning_by l (next_campaign l.campaigns now) now
+
+-- on standby, of a daemon that answers, where nobody leads and no campaign is under way
+abbrev pub may_campaign : Driven → ℕ → Bool
+may_campaign l now = not (is_held l.core.role) && not l.seen.is_led && not (is_some l.campaigns.under_way) && is_fresh_of l.pings now
+
+-- it reads on what its daemon wasn't fed; at the end of the log it campaigns
+abbrev pub follows : Driven → ℕ → Driven
+follows l now =
+    cond (is_leading l.core.role || is_ahead_of l.pings) l
+    (cond (nat_lt l.core.fed l.seen.image) (record (puts l actions.ReadImage) { question = questions.Image })
+    (cond (nat_lt l.core.fed l.seen.end) (record (puts l (actions.Read l.core.fed l.seen.end)) { question = questions.Batches })
+    (cond (may_campaign l now) (campaigning l now) l)))
+
+-- who leads asks for an image only where nobody else gave one
+abbrev pub places_of : Driven → ℕ
+places_of l = cond (is_leading l.core.role) (min (2 * l.settings.images) (2 ^ 64 - 1)) l.settings.images
+
+abbrev pub considers : Driven → Driven
+considers l =
+    cond (is_some l.pings && is_image_wanted l.imaging l.core.fed l.seen.image (places_of l))
+    (record (puts l actions.AskImage) { imaging = record l.imaging { is_asked = true; at = l.core.fed } }) l
+
+abbrev pub is_look : Question → Bool
+is_look questions.Look = true
+is_look other = false
+
+abbrev pub looked : Driven → Seen → ℕ → Driven
+looked l seen now = cond (is_look l.question) (follows (considers (record l { question = questions.Nothing; seen = seen })) now) l
+
+abbrev pub is_batches : Question → Bool
+is_batches questions.Batches = true
+is_batches other = false
+
+abbrev pub fed_of : Driven → ℕ → ℕ → Option Pinged → Driven
+fed_of l bytes now None = l
+fed_of l bytes now (Some p) =
+    cond (is_pinged p bytes) (pinged (record l { pings = Some (record p { unpinged = fed_more p.unpinged bytes }) }) now)
+    (record l { pings = Some (record p { unpinged = fed_more p.unpinged bytes }) })
+
+abbrev pub counts : Driven → ℕ → ℕ → Driven
+counts l bytes now = fed_of l bytes now l.pings
+
+-- no more is fed to a daemon that doesn't answer
+abbrev pub found : Driven → Batch → ℕ → Driven
+found l b now = cond (is_batches l.question && not (is_ahead_of l.pings)) (counts (told l (Found b)) (length b.bytes) now) l
+
+abbrev pub found_image : Driven → StoredImage → ℕ → Driven
+found_image l image now = cond (is_ahead_of l.pings) l (counts (told l (FoundImage image)) (length image.bytes) now)
+
+-- a read is over, or stays without an answer: where the daemon was fed less than was seen, it looks again
+abbrev pub answered_all : Driven → Bool → Driven
+answered_all l is_known = cond (is_known && not (is_ahead_of l.pings)) (looks (record l { question = questions.Nothing })) (record l { question = questions.Nothing })
+
+-- a campaign is answered once; a leadership that no call of this link awaits is given back
+abbrev pub won_by : Driven → Held → ℕ → Option Campaign → Driven
+won_by l held token None = puts l (actions.Resign held.made)
+won_by l held token (Some campaign) =
+    cond (is_held l.core.role) (record (puts l (actions.Resign held.made)) { campaigns = settled l.campaigns token })
+    (record (told l (Won (held_of held))) {
+      campaigns = settled l.campaigns token;
+      lease = Some (record { term = l.settings.term; asked = campaign.asked; tried = campaign.asked; is_renewing = false });
+    })
+
+abbrev pub won : Driven → ℕ → Held → Driven
+won l token held = won_by l held token (won_with l.campaigns token)
+
+abbrev pub not_won : Driven → ℕ → Driven
+not_won l token = record l { campaigns = settled l.campaigns token }
+
+abbrev pub stood : Driven → ℕ → ℕ → Driven
+stood l made base = cond (is_of made base l.core.role) (record (told l (Stood made base)) { is_unanswered = false }) l
+
+abbrev pub append_refused : Driven → ℕ → ℕ → Driven
+append_refused l made base = cond (is_of made base l.core.role) (is_over l) l
+
+abbrev pub append_unanswered : Driven → ℕ → ℕ → Driven
+append_unanswered l made base = cond (is_of made base l.core.role) (record l { is_unanswered = true }) l
+
+abbrev pub renewed_of : Driven → Bool → Option Lease → Driven
+renewed_of l is_granted None = l
+renewed_of l is_granted (Some lease) = record l { lease = Some (granted lease is_granted) }
+
+-- of the leadership that is held
+abbrev pub is_made_in : AnyRole → ℕ → Bool
+is_made_in laws.Standby made = false
+is_made_in (laws.Elected h) made = nat_eq h.made made
+is_made_in (laws.Leading h asked waits) made = nat_eq h.made made
+
+-- a renewal was granted, or stays without an answer
+abbrev pub renewed : Driven → ℕ → Bool → Driven
+renewed l made is_granted = cond (is_made_in l.core.role made) (renewed_of l is_granted l.lease) l
+
+-- the lease isn't there any more
+abbrev pub lapsed : Driven → ℕ → Driven
+lapsed l made = cond (is_made_in l.core.role made) (is_over l) l
+
+-- ---- images
+
+abbrev pub gave : Driven → StoredImage → Driven
+gave l image =
+    cond (nat_lt l.seen.image image.offset) (told l (Imaged l.seen.image image))
+    (record l { imaging = image_settled l.imaging answers.Vain })
+
+abbrev pub image_answered : Driven → ImageAnswer → Driven
+image_answered l answer = record l { imaging = image_settled l.imaging answer }
+
+-- ---- time
+
+abbrev pub is_lapsed_of : Option Lease → ℕ → Bool
+is_lapsed_of None now = false
+is_lapsed_of (Some lease) now = may_be_over lease now
+
+abbrev pub silence_of : Option Pinged → ℕ → ℕ
+silence_of None now = 0
+silence_of (Some p) now = silence p.sent now
+
+-- the lease may have run out, or the daemon that leads doesn't answer for as long as one
+abbrev pub is_due_to_end : Driven → ℕ → Bool
+is_due_to_end l now = is_lapsed_of l.lease now || (is_leading l.core.role && nat_lt l.settings.term (silence_of l.pings now))
+
+abbrev pub ended : Driven → ℕ → Driven
+ended l now = cond (is_due_to_end l now) (is_over l) l
+
+abbrev pub calls_again_in : Driven → AnyRole → Driven
+calls_again_in l (laws.Leading h asked waits) = record (puts l (actions.Append (record { made = h.made; end = base_of_first asked }) asked)) { is_unanswered = false }
+calls_again_in l other = l
+
+-- an append without an answer is called for again: it does no harm
+abbrev pub calls_again : Driven → Driven
+calls_again l = cond l.is_unanswered (calls_again_in l l.core.role) l
+
+abbrev pub renews_in : Driven → ℕ → AnyRole → Option Lease → Driven
+renews_in l now role None = l
+renews_in l now laws.Standby (Some lease) = l
+renews_in l now (laws.Elected h) (Some lease) = record (cond (is_due lease now) (puts l (actions.Renew h.made)) l) { lease = Some (tried_at lease now) }
+renews_in l now (laws.Leading h asked waits) (Some lease) = record (cond (is_due lease now) (puts l (actions.Renew h.made)) l) { lease = Some (tried_at lease now) }
+
+abbrev pub renews : Driven → ℕ → Driven
+renews l now = renews_in l now l.core.role l.lease
+
+-- who leads is told the time
+abbrev pub ticks : Driven → Driven
+ticks l = cond (is_leading l.core.role) (puts l (actions.Send frames.Tick)) l
+
+-- a daemon that doesn't answer for four terms is let go; else who leads is told the time, and each is pinged, and the log looked at
+abbrev pub beats : Driven → ℕ → Driven
+beats l now = cond (nat_lt (min (4 * l.settings.term) (2 ^ 64 - 1)) (silence_of l.pings now)) (let_go l)
+    (looks (pinged (ticks l) now))
+
+abbrev pub is_beat : Driven → ℕ → Bool
+is_beat l now = is_some l.pings && nat_le l.beat now
+
+-- it is later
+abbrev pub woke : Driven → ℕ → Driven
+woke l now =
+    let l' = renews (calls_again (ended l now)) now in
+    cond (is_beat l' now) (beats (record l' { beat = min (now + 1000) (2 ^ 64 - 1) }) now) l'
+
+-- ---- what its core is told: the core is the one that `law_core` has after that, and the actions are its deeds' and free ones
+
+abbrev pub is_free : Action → Bool
+is_free (actions.Send frames.Ping) = true
+is_free (actions.Send frames.Tick) = true
+is_free (actions.Send frame) = false
+is_free (actions.Append guard batches) = false
+is_free (actions.DropBatches before below image) = false
+is_free other = true

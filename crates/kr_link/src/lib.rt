@@ -1,0 +1,23 @@
+//! A node's link between its daemon and the store, without input or output: what comes of daemon, store and clock in, frames for the
+//! daemon and calls of the store out.
+#![tactic(auto)]
+
+mod actions;
+mod batch;
+mod campaigns;
+mod imaging;
+mod leases;
+mod link_core;
+mod pings;
+mod roles;
+mod waiting;
+
+pub use actions::{Action, Frame, Guard, Outbox};
+pub use batch::{Batch, BatchFault, StoredImage};
+pub use campaigns::{Campaign, Campaigns};
+pub use imaging::{ImageAnswer, Imaging};
+pub use leases::Lease;
+pub use link_core::LinkCore;
+pub use pings::{BEAT, EACH_BATCH, MOST_UNPINGED, Ping, Pings};
+pub use roles::{Held, Leading, Role};
+pub use waiting::Waiting;
