@@ -1,6 +1,6 @@
 -- All have read where nobody lags.
 use Rattle.std.proofs.Common.{◌≡◌, ◌∙◌, ℤ, Bool, true, false, not, ◌&&◌, ◌||◌, cond, List, [], ◌∷◌, refl, sym, ap, arith}
-use Rattle.std.specs.Prelude.{Option, Some, None, filter, int_le, int_lt, map, fold}
+use Rattle.std.specs.Prelude.{Option, Some, None, filter, int_le, int_lt, map}
 use Rattle.std.specs.Int.{int_min}
 use Rattle.std.specs.List.{cons_option, filter_map, list_any, reduce}
 use Rattle.std.specs.Option.{option_map_or}

@@ -9,4 +9,4 @@ use Rattle.kr_model.specs.Events.{time_after}
 abbrev pub WithinTick : Core → Core → ℤ → ℕ → ℕ → Type 0
 WithinTick before after now first last =
     let lapsed = expired before.heard (time_after before.time (events.Tick now) -ℤ pos before.options.session_ms) in
-    pos last ≤ℤ pos (first + length lapsed + 1) +ℤ (after.tip -ℤ before.tip)
+    pos last ≤ℤ (pos (first + length lapsed + 1) +ℤ (after.tip -ℤ before.tip))

@@ -46,4 +46,4 @@ Advances before after first last = pos last +ℤ before.tip ≡ pos first +ℤ a
 
 -- beside these, one for each contact whose session has ended, and one more
 abbrev pub WithinLapsed : Core → Core → ℕ → ℕ → Type 0
-WithinLapsed before after first last = pos last ≤ℤ pos (first + length (lapsed_contacts before) + 1) +ℤ (after.tip -ℤ before.tip)
+WithinLapsed before after first last = pos last ≤ℤ (pos (first + length (lapsed_contacts before) + 1) +ℤ (after.tip -ℤ before.tip))
