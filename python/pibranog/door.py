@@ -10,7 +10,7 @@ from typing import Any, Iterable, List, Optional, Sequence, Tuple, Type
 from pibranog.values import Elected, Partition
 from pibranog.wire import Reading, array, ids, text
 
-LOG_LINES, IMAGE_LINES, FOLD, IMAGE_BATCHES, ELECT, PLACE, PLAN, REPLY = range(1, 9)
+LOG_LINES, IMAGE_LINES, FOLD, IMAGE_BATCHES, ELECT, PLACE, PLAN, REPLY, REQUEST = range(1, 10)
 CHOICES = ("InSync", "Eligible", "Unclean", "Nobody")
 HERE = os.path.dirname(os.path.dirname(os.path.dirname(os.path.abspath(__file__))))
 
@@ -124,3 +124,9 @@ class Door:
         """A reply's message, without its size, to a request of this key and version: `responseHeader` and `response`, each as Kafka's
         JSON converters of the message schemas show it."""
         return json.loads(self.ask(REPLY, struct.pack(">hh", key, version) + message))
+
+    def request(self, request: dict[str, Any]) -> bytes:
+        """The message, without its size, of a request: `requestHeader`, which names its key and version, and `request`, each as
+        Kafka's JSON converters of the message schemas read it. Refused is raised as `UnknownRequest` where that key and version
+        aren't served, as `BadField` where a field is absent or has no value of its type."""
+        return self.ask(REQUEST, json.dumps(request).encode())

@@ -17,6 +17,7 @@ use Rattle.kr_door_loop.specs.declared.refusal.DoorRefusal.TheVariants as refusa
 use Rattle.kr_door_loop.specs.Elections.{elect_question, elects}
 use Rattle.kr_door_loop.specs.Placements.{place_question, places}
 use Rattle.kr_door_loop.specs.Replies.{AnswersReply}
+use Rattle.kr_door_loop.specs.Requests.{AnswersRequest}
 
 -- bytes, or a refusal
 abbrev pub Answer : Type 0
@@ -137,3 +138,4 @@ AnswersKind kinds.Elect = AnswersValue (Is elect_question) elects
 AnswersKind kinds.Place = AnswersValue (Is place_question) places
 AnswersKind kinds.Plan = PlansLeaders
 AnswersKind kinds.Reply = AnswersReply
+AnswersKind kinds.Request = AnswersRequest

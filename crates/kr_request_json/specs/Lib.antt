@@ -1,0 +1,4 @@
+pub mod Forms
+pub mod Messages
+pub mod Requests
+pub mod inner

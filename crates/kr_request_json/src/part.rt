@@ -1,0 +1,252 @@
+//! Parts of messages that stand for themselves.
+
+ghost use Rattle.std.specs.Prelude.{◌≡◌, ◌≤ℤ◌, ◌==◌, ℤ, pos, negsuc, length, Option, option_map, option_and_then, is_some, IfSome, MatchResult};
+ghost use Rattle.base64.specs.Engines.{url_safe_no_pad};
+ghost use Rattle.base64.specs.GeneralPurpose.{decode_of};
+ghost use Rattle.serde_json.specs.Find.{as_bool, as_str};
+ghost use Rattle.serde_json.specs.View.{view};
+ghost use Rattle.kr_request_json.specs.Forms as forms;
+ghost use Rattle.kr_request_json.specs.Forms.{Form};
+ghost use Rattle.kr_request_json.specs.inner.Steps.{Found, PutsForm};
+
+use crate::fault::PartFault;
+use base64::DecodeAllocError;
+use base64::engine::general_purpose::URL_SAFE_NO_PAD;
+use kr_wire::{put_bool, put_bytes, put_i8, put_i16, put_i32, put_i64, put_null, put_str, put_u16};
+use serde_json::Value;
+use std::alloc::Global;
+
+/// A part of a message, by its form.
+pub(crate) trait Part {
+    ghost form: { Form };
+
+    /// Appends the bytes of the value that the JSON is. Where it is none, or without memory, which a text or a list of 2^31 or more
+    /// wants too, some of them may stand behind what there was.
+    fn put(alloc: Global, json: &Value, out: &mut Vec<u8>) -> Result<(), PartFault>
+        ensures { PutsForm form (view json.now) result out.old.items out.new.items };
+}
+
+// ---- numbers
+
+fn as_i8(json: &Value) -> Option<i8>
+    ensures { result ≡ forms.int8_of (view json.now) }
+{
+    let number = json.as_i64()?;
+    if number < -128 || 127 < number {
+        return None;
+    }
+    Some(number as i8)
+}
+
+pub(crate) fn as_i16(json: &Value) -> Option<i16>
+    ensures { result ≡ forms.int16_of (view json.now) }
+{
+    let number = json.as_i64()?;
+    if number < -32768 || 32767 < number {
+        return None;
+    }
+    Some(number as i16)
+}
+
+fn as_i32(json: &Value) -> Option<i32>
+    ensures { result ≡ forms.int32_of (view json.now) }
+{
+    let number = json.as_i64()?;
+    if number < -2147483648 || 2147483647 < number {
+        return None;
+    }
+    Some(number as i32)
+}
+
+fn as_u16(json: &Value) -> Option<u16>
+    ensures { option_map (λ n. pos n) result ≡ forms.uint16_of (view json.now) }
+{
+    let number = json.as_i64()?;
+    if number < 0 || 65535 < number {
+        return None;
+    }
+    Some(number as u16)
+}
+
+pub(crate) struct Int8;
+
+impl Part for Int8 {
+    ghost form = { forms.int8_form };
+
+    fn put(alloc: Global, json: &Value, out: &mut Vec<u8>) -> Result<(), PartFault> {
+        let Some(number) = as_i8(json) else {
+            return Err(PartFault::BadField);
+        };
+        put_i8(out, number)?;
+        Ok(())
+    }
+}
+
+pub(crate) struct Int16;
+
+impl Part for Int16 {
+    ghost form = { forms.int16_form };
+
+    fn put(alloc: Global, json: &Value, out: &mut Vec<u8>) -> Result<(), PartFault> {
+        let Some(number) = as_i16(json) else {
+            return Err(PartFault::BadField);
+        };
+        put_i16(out, number)?;
+        Ok(())
+    }
+}
+
+pub(crate) struct Int32;
+
+impl Part for Int32 {
+    ghost form = { forms.int32_form };
+
+    fn put(alloc: Global, json: &Value, out: &mut Vec<u8>) -> Result<(), PartFault> {
+        let Some(number) = as_i32(json) else {
+            return Err(PartFault::BadField);
+        };
+        put_i32(out, number)?;
+        Ok(())
+    }
+}
+
+pub(crate) struct Int64;
+
+impl Part for Int64 {
+    ghost form = { forms.int64_form };
+
+    fn put(alloc: Global, json: &Value, out: &mut Vec<u8>) -> Result<(), PartFault> {
+        let Some(number) = json.as_i64() else {
+            return Err(PartFault::BadField);
+        };
+        put_i64(out, number)?;
+        Ok(())
+    }
+}
+
+pub(crate) struct Uint16;
+
+impl Part for Uint16 {
+    ghost form = { forms.uint16_form };
+
+    fn put(alloc: Global, json: &Value, out: &mut Vec<u8>) -> Result<(), PartFault> {
+        let Some(number) = as_u16(json) else {
+            return Err(PartFault::BadField);
+        };
+        put_u16(out, number)?;
+        Ok(())
+    }
+}
+
+pub(crate) struct Boolean;
+
+impl Part for Boolean {
+    ghost form = { forms.boolean_form };
+
+    fn put(alloc: Global, json: &Value, out: &mut Vec<u8>) -> Result<(), PartFault> {
+        let Some(value) = json.as_bool() else {
+            return Err(PartFault::BadField);
+        };
+        put_bool(out, value)?;
+        Ok(())
+    }
+}
+
+// ---- texts
+
+pub(crate) struct Str;
+
+impl Part for Str {
+    ghost form = { forms.text_form };
+
+    fn put(alloc: Global, json: &Value, out: &mut Vec<u8>) -> Result<(), PartFault> {
+        let Some(text) = json.as_str() else {
+            return Err(PartFault::BadField);
+        };
+        if text.len() >= 1 << 31 {
+            return Err(PartFault::NoMemory);
+        }
+        put_str(out, text)?;
+        Ok(())
+    }
+}
+
+/// A text, or null.
+pub(crate) struct NullableStr;
+
+impl Part for NullableStr {
+    ghost form = { forms.nullable_text_form };
+
+    #[tactic(auto, using(crate::proofs::Texts::text_put, crate::proofs::Texts::text_null))]
+    fn put(alloc: Global, json: &Value, out: &mut Vec<u8>) -> Result<(), PartFault> {
+        if json.is_null() {
+            put_null(out)?;
+            return Ok(());
+        }
+        <Str as Part>::put(alloc, json, out)
+    }
+}
+
+// The bytes that a text is in base64.
+fn decoded(alloc: Global, text: &str) -> Result<Vec<u8>, PartFault>
+    ensures { Found (λ bytes. bytes.items) result (forms.sixteen (decode_of url_safe_no_pad
+        text.now)) }
+{
+    match URL_SAFE_NO_PAD.decode(alloc, text.as_bytes()) {
+        Ok(bytes) => {
+            if bytes.len() == 16 {
+                return Ok(bytes);
+            }
+            Err(PartFault::BadField)
+        }
+        Err(DecodeAllocError::DecodeError(_)) => Err(PartFault::BadField),
+        Err(DecodeAllocError::OutOfMemory) => Err(PartFault::NoMemory),
+    }
+}
+
+/// An id, in base64.
+pub(crate) struct Uuid;
+
+impl Part for Uuid {
+    ghost form = { forms.uuid_form };
+
+    fn put(alloc: Global, json: &Value, out: &mut Vec<u8>) -> Result<(), PartFault> {
+        let Some(text) = json.as_str() else {
+            return Err(PartFault::BadField);
+        };
+        let bytes = decoded(alloc, text)?;
+        put_bytes(out, bytes.as_slice())?;
+        Ok(())
+    }
+}
+
+/// The client id of a header: a text behind its length in 16 bits, or null.
+pub(crate) struct ClientId;
+
+fn put_short(out: &mut Vec<u8>, json: &Value) -> Result<(), PartFault>
+    ensures { PutsForm (forms.plain_form forms.short_text_of (λ text. forms.client_id (Some text))) (view json.now) result
+        out.old.items out.new.items }
+{
+    let Some(text) = json.as_str() else {
+        return Err(PartFault::BadField);
+    };
+    if text.len() > 32767 {
+        return Err(PartFault::BadField);
+    }
+    put_i16(out, text.len() as i16)?;
+    put_bytes(out, text.as_bytes())?;
+    Ok(())
+}
+
+impl Part for ClientId {
+    ghost form = { forms.client_id_form };
+
+    #[tactic(auto, using(crate::proofs::Texts::client_put, crate::proofs::Texts::client_null))]
+    fn put(alloc: Global, json: &Value, out: &mut Vec<u8>) -> Result<(), PartFault> {
+        if json.is_null() {
+            put_i16(out, -1)?;
+            return Ok(());
+        }
+        put_short(out, json)
+    }
+}
