@@ -108,17 +108,13 @@ class Door:
         """The brokers of a partition's replicas, of these with their racks, the first one preferred."""
         listed = array(struct.pack(">i", broker) + text(rack) + b"\0" for broker, rack in brokers)
         answer = Reading(self.ask(PLACE, struct.pack(">qih", start, index, factor) + listed + b"\0"))
-        return [answer.number(4) for _ in range(answer.count())]
+        return answer.ids()
 
     def plan(self, image: bytes, percent: int) -> List[Tuple[str, int]]:
         """The partitions that a round of the balancer gives back to their preferred leaders, where more than so many of a hundred
         of a broker's are led by others: each by its topic's name and its index."""
         answer = Reading(self.ask(PLAN, bytes([percent]) + image))
-        rows = []
-        for _ in range(answer.count()):
-            rows.append((answer.text(), answer.number(4)))
-            answer.tags()
-        return rows
+        return answer.many(lambda: (answer.text(), answer.number(4)))
 
     def reply(self, key: int, version: int, message: bytes) -> dict[str, Any]:
         """A reply's message, without its size, to a request of this key and version: `responseHeader` and `response`, each as Kafka's

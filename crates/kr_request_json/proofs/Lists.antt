@@ -11,8 +11,8 @@ use Rattle.serde_json.specs.declared.value.Value.{Value}
 use Rattle.kr_wire.specs.Spelling.{count, list}
 use Rattle.kr_request_json.specs.declared.fault.PartFault.{PartFault}
 use Rattle.kr_request_json.specs.declared.fault.PartFault.TheVariants as parts
-use Rattle.kr_request_json.specs.Forms.{Form, array_form, each}
-use Rattle.kr_request_json.specs.inner.Steps.{PutsForm, PutsItems}
+use Rattle.kr_request_json.specs.Inputs.{JsonInput, array_input, each}
+use Rattle.kr_request_json.specs.inner.Steps.{PutsInput, PutsItems}
 use Rattle.kr_request_json.proofs.Fields.{joined}
 
 module _ {X : Type 0} (one : Data → Option X) where
@@ -41,12 +41,12 @@ module _ {X : Type 0} (one : Data → Option X) where
       ] refl
 
 -- the values of some items were put
-pub record PutSome (f : Form) (items : List Value) (i : ℕ) (before out : List ℕ) : Type 0 where
+pub record PutSome (f : JsonInput) (items : List Value) (i : ℕ) (before out : List ℕ) : Type 0 where
   pub front : List f.Value
   pub is : with_front f.of_json front (each f.of_json (items_view (drop i items))) ≡ each f.of_json (items_view items)
   pub wrote : out ≡ before ++ flat_map f.bytes front
 
-module _ (f : Form) (items : List Value) where
+module _ (f : JsonInput) (items : List Value) where
   pub begun : (before : List ℕ) → PutSome f items 0 before before
   begun before = record { front = []; is = none_before f.of_json (each f.of_json (items_view items)); wrote = sym (append-nil before) }
 
@@ -54,7 +54,7 @@ module _ (f : Form) (items : List Value) where
     step : i < length items → v ≡ get_or items i v → each f.of_json (items_view (drop i items)) ≡ each f.of_json (items_view (v ∷ drop (i + 1) items))
     step low same = at_drop_more (λ (l : List Value). each f.of_json (items_view l)) items i v low ∙ ap (λ (w : Value). each f.of_json (items_view (w ∷ drop (i + 1) items))) (sym same)
 
-    pub one_more : (after : List ℕ) → i < length items → v ≡ get_or items i v → PutsForm f (view v) (Ok tt) out after → PutSome f items (i + 1) before after
+    pub one_more : (after : List ℕ) → i < length items → v ≡ get_or items i v → PutsInput f (view v) (Ok tt) out after → PutSome f items (i + 1) before after
     one_more after low same put =
         let rest = each f.of_json (items_view (drop (i + 1) items)) in
         let now : each f.of_json (items_view (drop i items)) ≡ option_map (λ xs. put.value ∷ xs) rest = step low same ∙ rw put.is refl in
@@ -65,7 +65,7 @@ module _ (f : Form) (items : List Value) where
               ∙ ap (λ (l : List ℕ). before ++ l) (sym (flat_map-append f.bytes so_far.front (put.value ∷ []) ∙ ap (λ (l : List ℕ). flat_map f.bytes so_far.front ++ l) (append-nil (f.bytes put.value))));
         }
 
-    pub one_refused : (fault : PartFault) (mid after : List ℕ) → i < length items → v ≡ get_or items i v → PutsForm f (view v) (Err fault) out mid → PutsItems f (items_view items) (Err fault) before after
+    pub one_refused : (fault : PartFault) (mid after : List ℕ) → i < length items → v ≡ get_or items i v → PutsInput f (view v) (Err fault) out mid → PutsItems f (items_view items) (Err fault) before after
     one_refused parts.BadField mid after low same refused =
         let now : each f.of_json (items_view (drop i items)) ≡ None = step low same ∙ rw refused refl in
         sym so_far.is ∙ rw now refl
@@ -78,7 +78,7 @@ module _ (f : Form) (items : List Value) where
       record { value = so_far.front; is = sym so_far.is ∙ found; wrote = so_far.wrote }
 
   pub list_put : (d : Data) (result : Result (Unit {0}) PartFault) (before mid after : List ℕ) → as_array d ≡ Some (items_view items) → mid ≡ before ++ count (length items)
-      → PutsItems f (items_view items) result mid after → PutsForm (array_form f) d result before after
+      → PutsItems f (items_view items) result mid after → PutsInput (array_input f) d result before after
   list_put d (Ok done) before mid after found counted put = record {
     value = put.value;
     is = rw (found, put.is) refl;

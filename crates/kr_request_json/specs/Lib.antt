@@ -1,4 +1,4 @@
-pub mod Forms
+pub mod Inputs
 pub mod Messages
 pub mod Requests
 pub mod inner

@@ -1,5 +1,5 @@
 -- The message of the request that a text is in JSON, or the first reason why there is none.
-use Rattle.std.specs.Prelude.{◌≡◌, ℕ, ℤ, List, Option, Some, None, option_map, Result, Ok, Err, Unit, codes, if◌then◌else◌}
+use Rattle.std.specs.Prelude.{◌≡◌, ℕ, ℤ, List, Option, Some, None, option_map, Result, Ok, Err, codes, if◌then◌else◌}
 use Rattle.std.specs.Str.{is_utf8}
 use Rattle.serde_json.specs.Data.{Data}
 use Rattle.serde_json.specs.Read.{read}
@@ -9,7 +9,7 @@ use Rattle.kr_req.specs.declared.api.ApiKey.TheVariants as apis
 use Rattle.kr_req.specs.Reading.{served_by}
 use Rattle.kr_request_json.specs.declared.fault.RequestFault.{RequestFault}
 use Rattle.kr_request_json.specs.declared.fault.RequestFault.TheVariants as faults
-use Rattle.kr_request_json.specs.Forms.{Form, both, int16_of, member_of, message_form}
+use Rattle.kr_request_json.specs.Inputs.{JsonInput, pair_of, int16_of, member_of, message_input}
 use Rattle.kr_request_json.specs.Requests as requests
 
 -- what there is, or that fault
@@ -23,7 +23,7 @@ json_of text = if is_utf8 text then read text else None
 
 -- the key and the version in a header
 abbrev pub numbers_of : Data → Option (ℤ × ℤ)
-numbers_of header = both (member_of (codes "requestApiKey") int16_of header) (member_of (codes "requestApiVersion") int16_of header)
+numbers_of header = pair_of (member_of (codes "requestApiKey") int16_of header) (member_of (codes "requestApiVersion") int16_of header)
 
 abbrev pub served_for : ℤ × ℤ → Result ApiKey RequestFault
 served_for numbers = or_fault faults.UnknownRequest (served_by numbers.0 numbers.1)
@@ -32,31 +32,34 @@ served_for numbers = or_fault faults.UnknownRequest (served_by numbers.0 numbers
 abbrev pub api_for : Data → Result ApiKey RequestFault
 api_for json = or_fault faults.BadField (member_of (codes "requestHeader") numbers_of json) >>= served_for
 
-abbrev pub request_form : ApiKey → Form
-request_form apis.BrokerRegistration = requests.broker_registration_request_form
-request_form apis.BrokerHeartbeat = requests.broker_heartbeat_request_form
-request_form apis.UnregisterBroker = requests.unregister_broker_request_form
-request_form apis.CreateTopics = requests.create_topics_request_form
-request_form apis.DeleteTopics = requests.delete_topics_request_form
-request_form apis.CreatePartitions = requests.create_partitions_request_form
-request_form apis.AlterPartition = requests.alter_partition_request_form
-request_form apis.ElectLeaders = requests.elect_leaders_request_form
-request_form apis.AlterPartitionReassignments = requests.alter_partition_reassignments_request_form
-request_form apis.ListPartitionReassignments = requests.list_partition_reassignments_request_form
-request_form apis.IncrementalAlterConfigs = requests.incremental_alter_configs_request_form
-request_form apis.Metadata = requests.metadata_request_form
+abbrev pub request_input : ApiKey → JsonInput
+request_input apis.BrokerRegistration = requests.broker_registration_request_input
+request_input apis.BrokerHeartbeat = requests.broker_heartbeat_request_input
+request_input apis.UnregisterBroker = requests.unregister_broker_request_input
+request_input apis.CreateTopics = requests.create_topics_request_input
+request_input apis.DeleteTopics = requests.delete_topics_request_input
+request_input apis.CreatePartitions = requests.create_partitions_request_input
+request_input apis.AlterPartition = requests.alter_partition_request_input
+request_input apis.ElectLeaders = requests.elect_leaders_request_input
+request_input apis.AlterPartitionReassignments = requests.alter_partition_reassignments_request_input
+request_input apis.ListPartitionReassignments = requests.list_partition_reassignments_request_input
+request_input apis.IncrementalAlterConfigs = requests.incremental_alter_configs_request_input
+request_input apis.Metadata = requests.metadata_request_input
 
 -- the bytes of the value that the JSON is
-abbrev pub bytes_for : Form → Data → Result (List ℕ) RequestFault
+abbrev pub bytes_for : JsonInput → Data → Result (List ℕ) RequestFault
 bytes_for f json = or_fault faults.BadField (option_map f.bytes (f.of_json json))
 
 unfoldable pub message_for : Data → ApiKey → Result (List ℕ) RequestFault
-message_for json api = bytes_for (message_form (request_form api)) json
+message_for json api = bytes_for (message_input (request_input api)) json
 
-unfoldable pub request_of : List ℕ → Result (List ℕ) RequestFault
-request_of text = or_fault faults.NotJson (json_of text) >>= λ json. (api_for json >>= message_for json)
+abbrev pub request_for : Data → Result (List ℕ) RequestFault
+request_for json = api_for json >>= message_for json
+
+unfoldable pub message_of_text : List ℕ → Result (List ℕ) RequestFault
+message_of_text text = or_fault faults.NotJson (json_of text) >>= request_for
 
 -- that, or memory ran out
-abbrev pub IsAnswer : {X : Type 0} → Result X RequestFault → Result X RequestFault → Type 0
-IsAnswer (Err faults.NoMemory) meaning = Unit {0}
-IsAnswer answer meaning = meaning ≡ answer
+abbrev pub IsAnswerTo : {X : Type 0} → Result X RequestFault → Result X RequestFault → Type 0
+IsAnswerTo (Err faults.NoMemory) meaning = Unit {0}
+IsAnswerTo answer meaning = meaning ≡ answer

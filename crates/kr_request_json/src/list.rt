@@ -2,8 +2,8 @@
 
 ghost use Rattle.std.specs.Prelude.{◌≡◌, ◌<◌, ◌^◌, length};
 ghost use Rattle.serde_json.specs.View.{items_view, view};
-ghost use Rattle.kr_request_json.specs.Forms as forms;
-ghost use Rattle.kr_request_json.specs.inner.Steps.{PutsForm, PutsItems};
+ghost use Rattle.kr_request_json.specs.Inputs as inputs;
+ghost use Rattle.kr_request_json.specs.inner.Steps.{PutsInput, PutsItems};
 
 use crate::fault::PartFault;
 use crate::part::Part;
@@ -14,7 +14,7 @@ use std::marker::PhantomData;
 
 // The items one behind the other.
 fn put_items<T: Part>(alloc: Global, items: &[Value], out: &mut Vec<u8>) -> Result<(), PartFault>
-    ensures { PutsItems T.form (items_view items.now) result out.old.items out.new.items }
+    ensures { PutsItems T.input (items_view items.now) result out.old.items out.new.items }
 {
     for item in items {
         T::put(alloc, item, out)?;
@@ -26,7 +26,7 @@ fn put_items<T: Part>(alloc: Global, items: &[Value], out: &mut Vec<u8>) -> Resu
 pub(crate) struct Array<T>(PhantomData<T>);
 
 impl<T: Part> Part for Array<T> {
-    ghost form = { forms.array_form T.form };
+    ghost input = { inputs.array_input T.input };
 
     #[tactic(auto, using(crate::proofs::Lists::list_put))]
     fn put(alloc: Global, json: &Value, out: &mut Vec<u8>) -> Result<(), PartFault> {
@@ -46,7 +46,7 @@ impl<T: Part> Part for Array<T> {
 pub(crate) struct NullableArray<T>(PhantomData<T>);
 
 impl<T: Part> Part for NullableArray<T> {
-    ghost form = { forms.nullable_array_form T.form };
+    ghost input = { inputs.nullable_array_input T.input };
 
     #[tactic(auto, using(crate::proofs::Texts::list_put, crate::proofs::Texts::list_null))]
     fn put(alloc: Global, json: &Value, out: &mut Vec<u8>) -> Result<(), PartFault> {

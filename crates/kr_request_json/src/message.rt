@@ -1,17 +1,16 @@
 //! A request's message, from JSON.
 
 ghost use Rattle.std.specs.Prelude.{◌≡◌, codes};
-ghost use Rattle.kr_wire.specs.Reading.{◌>>=◌};
 ghost use Rattle.serde_json.specs.Read.{read};
 ghost use Rattle.serde_json.specs.View.{view};
 ghost use Rattle.kr_request_json.specs.declared.fault.RequestFault.TheVariants as faults;
-ghost use Rattle.kr_request_json.specs.Forms.{int16_of, member_of, message_form};
-ghost use Rattle.kr_request_json.specs.Messages.{IsAnswer, api_for, bytes_for, json_of, message_for, numbers_of, or_fault, request_form, request_of};
+ghost use Rattle.kr_request_json.specs.Inputs.{int16_of, member_of, message_input};
+ghost use Rattle.kr_request_json.specs.Messages.{IsAnswerTo, api_for, bytes_for, json_of, message_for, numbers_of, or_fault, request_for, request_input, message_of_text};
 ghost use Rattle.kr_request_json.specs.inner.Steps.{AnswersSeen};
 
 use crate::fault::{PartFault, RequestFault};
 use crate::names;
-use crate::object::{End, Member, Nothing};
+use crate::object::{End, Member, MessageEnd};
 use crate::part::{ClientId, Int16, Int32, Part, as_i16};
 use crate::requests::{
     AlterPartitionReassignmentsRequest, AlterPartitionRequest, BrokerHeartbeatRequest,
@@ -34,7 +33,11 @@ type RequestHeader = Member<
     >,
 >;
 
-type Message<B> = Member<names::RequestHeader, RequestHeader, Member<names::Request, B, Nothing>>;
+type Message<B> = Member<
+    names::RequestHeader,
+    RequestHeader,
+    Member<names::Request, B, MessageEnd>,
+>;
 
 // ---- the text
 
@@ -102,7 +105,7 @@ fn read_api(json: &Value) -> Result<ApiKey, RequestFault>
 
 #[tactic(auto, using(crate::proofs::Fields::message_put, crate::proofs::Fields::message_refused))]
 fn put_message<B: Part>(alloc: Global, json: &Value) -> Result<Bytes, RequestFault>
-    ensures { IsAnswer result (bytes_for (message_form B.form) (view json.now)) }
+    ensures { IsAnswerTo result (bytes_for (message_input B.input) (view json.now)) }
 {
     let mut out = Vec::new(alloc);
     match <Message<B> as Part>::put(alloc, json, &mut out) {
@@ -114,7 +117,7 @@ fn put_message<B: Part>(alloc: Global, json: &Value) -> Result<Bytes, RequestFau
 
 #[tactic(auto, unfolding(crate::specs::Messages::message_for))]
 fn put_served(alloc: Global, api: ApiKey, json: &Value) -> Result<Bytes, RequestFault>
-    ensures { IsAnswer result (message_for (view json.now) api) }
+    ensures { IsAnswerTo result (message_for (view json.now) api) }
 {
     match api {
         ApiKey::BrokerRegistration => put_message::<BrokerRegistrationRequest>(alloc, json),
@@ -140,7 +143,7 @@ fn put_served(alloc: Global, api: ApiKey, json: &Value) -> Result<Bytes, Request
 
 // The message of a request's JSON.
 fn put_request(alloc: Global, json: &Value) -> Result<Bytes, RequestFault>
-    ensures { IsAnswer result (api_for (view json.now) >>= message_for (view json.now)) }
+    ensures { IsAnswerTo result (request_for (view json.now)) }
 {
     match read_api(json) {
         Ok(api) => put_served(alloc, api, json),
@@ -152,9 +155,9 @@ fn put_request(alloc: Global, json: &Value) -> Result<Bytes, RequestFault>
 /// each as Kafka's JSON converters read it. A field of the version that is served is mandatory, any other member is passed over.
 /// Refused is a text that is no JSON, then a key and version that aren't served, then a field that is absent or has no value of its
 /// type; key and version are fields that are looked at before that.
-#[tactic(auto, unfolding(crate::specs::Messages::request_of))]
+#[tactic(auto, unfolding(crate::specs::Messages::message_of_text))]
 pub fn request_bytes(alloc: Global, text: &[u8]) -> Result<Bytes, RequestFault>
-    ensures { IsAnswer result (request_of text.now) }
+    ensures { IsAnswerTo result (message_of_text text.now) }
 {
     match read_json(alloc, text) {
         Ok(json) => put_request(alloc, &json),

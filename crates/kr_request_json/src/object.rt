@@ -3,9 +3,9 @@
 ghost use Rattle.std.specs.Prelude.{◌≡◌, ℕ, List};
 ghost use Rattle.serde_json.specs.Find.{get};
 ghost use Rattle.serde_json.specs.View.{view};
-ghost use Rattle.kr_request_json.specs.Forms as forms;
-ghost use Rattle.kr_request_json.specs.Forms.{◌∶◌, ◌▹◌};
-ghost use Rattle.kr_request_json.specs.inner.Steps.{Found, PutsForm};
+ghost use Rattle.kr_request_json.specs.Inputs as inputs;
+ghost use Rattle.kr_request_json.specs.Inputs.{◌≔◌, ◌⋄◌};
+ghost use Rattle.kr_request_json.specs.inner.Steps.{Found, PutsInput};
 
 use crate::fault::PartFault;
 use crate::part::Part;
@@ -36,7 +36,7 @@ fn field<N: FieldName>(json: &Value) -> Result<&Value, PartFault>
 pub(crate) struct Member<N, T, R>(PhantomData<(N, T, R)>);
 
 impl<N: FieldName, T: Part, R: Part> Part for Member<N, T, R> {
-    ghost form = { N.name ∶ T.form ▹ R.form };
+    ghost input = { N.name ≔ T.input ⋄ R.input };
 
     #[tactic(auto, using(crate::proofs::Fields::field_put, crate::proofs::Fields::field_refused, crate::proofs::Fields::field_missing))]
     fn put(alloc: Global, json: &Value, out: &mut Vec<u8>) -> Result<(), PartFault> {
@@ -50,7 +50,7 @@ impl<N: FieldName, T: Part, R: Part> Part for Member<N, T, R> {
 pub(crate) struct End;
 
 impl Part for End {
-    ghost form = { forms.no_field };
+    ghost input = { inputs.no_more };
 
     #[tactic(auto, unfolding(kr_wire::specs::Spelling::uvarint))]
     fn put(alloc: Global, json: &Value, out: &mut Vec<u8>) -> Result<(), PartFault> {
@@ -60,10 +60,10 @@ impl Part for End {
 }
 
 /// The end of a message.
-pub(crate) struct Nothing;
+pub(crate) struct MessageEnd;
 
-impl Part for Nothing {
-    ghost form = { forms.nothing };
+impl Part for MessageEnd {
+    ghost input = { inputs.message_end };
 
     fn put(alloc: Global, json: &Value, out: &mut Vec<u8>) -> Result<(), PartFault> {
         Ok(())

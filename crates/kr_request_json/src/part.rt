@@ -5,9 +5,9 @@ ghost use Rattle.base64.specs.Engines.{url_safe_no_pad};
 ghost use Rattle.base64.specs.GeneralPurpose.{decode_of};
 ghost use Rattle.serde_json.specs.Find.{as_bool, as_str};
 ghost use Rattle.serde_json.specs.View.{view};
-ghost use Rattle.kr_request_json.specs.Forms as forms;
-ghost use Rattle.kr_request_json.specs.Forms.{Form};
-ghost use Rattle.kr_request_json.specs.inner.Steps.{Found, PutsForm};
+ghost use Rattle.kr_request_json.specs.Inputs as inputs;
+ghost use Rattle.kr_request_json.specs.Inputs.{JsonInput};
+ghost use Rattle.kr_request_json.specs.inner.Steps.{Found, PutsInput};
 
 use crate::fault::PartFault;
 use base64::DecodeAllocError;
@@ -16,20 +16,20 @@ use kr_wire::{put_bool, put_bytes, put_i8, put_i16, put_i32, put_i64, put_null, 
 use serde_json::Value;
 use std::alloc::Global;
 
-/// A part of a message, by its form.
+/// A part of a message, by the value that its JSON has and the bytes of that.
 pub(crate) trait Part {
-    ghost form: { Form };
+    ghost input: { JsonInput };
 
     /// Appends the bytes of the value that the JSON is. Where it is none, or without memory, which a text or a list of 2^31 or more
     /// wants too, some of them may stand behind what there was.
     fn put(alloc: Global, json: &Value, out: &mut Vec<u8>) -> Result<(), PartFault>
-        ensures { PutsForm form (view json.now) result out.old.items out.new.items };
+        ensures { PutsInput input (view json.now) result out.old.items out.new.items };
 }
 
 // ---- numbers
 
 fn as_i8(json: &Value) -> Option<i8>
-    ensures { result ≡ forms.int8_of (view json.now) }
+    ensures { result ≡ inputs.int8_of (view json.now) }
 {
     let number = json.as_i64()?;
     if number < -128 || 127 < number {
@@ -39,7 +39,7 @@ fn as_i8(json: &Value) -> Option<i8>
 }
 
 pub(crate) fn as_i16(json: &Value) -> Option<i16>
-    ensures { result ≡ forms.int16_of (view json.now) }
+    ensures { result ≡ inputs.int16_of (view json.now) }
 {
     let number = json.as_i64()?;
     if number < -32768 || 32767 < number {
@@ -49,7 +49,7 @@ pub(crate) fn as_i16(json: &Value) -> Option<i16>
 }
 
 fn as_i32(json: &Value) -> Option<i32>
-    ensures { result ≡ forms.int32_of (view json.now) }
+    ensures { result ≡ inputs.int32_of (view json.now) }
 {
     let number = json.as_i64()?;
     if number < -2147483648 || 2147483647 < number {
@@ -59,7 +59,7 @@ fn as_i32(json: &Value) -> Option<i32>
 }
 
 fn as_u16(json: &Value) -> Option<u16>
-    ensures { option_map (λ n. pos n) result ≡ forms.uint16_of (view json.now) }
+    ensures { option_map (λ n. pos n) result ≡ inputs.uint16_of (view json.now) }
 {
     let number = json.as_i64()?;
     if number < 0 || 65535 < number {
@@ -71,7 +71,7 @@ fn as_u16(json: &Value) -> Option<u16>
 pub(crate) struct Int8;
 
 impl Part for Int8 {
-    ghost form = { forms.int8_form };
+    ghost input = { inputs.int8_input };
 
     fn put(alloc: Global, json: &Value, out: &mut Vec<u8>) -> Result<(), PartFault> {
         let Some(number) = as_i8(json) else {
@@ -85,7 +85,7 @@ impl Part for Int8 {
 pub(crate) struct Int16;
 
 impl Part for Int16 {
-    ghost form = { forms.int16_form };
+    ghost input = { inputs.int16_input };
 
     fn put(alloc: Global, json: &Value, out: &mut Vec<u8>) -> Result<(), PartFault> {
         let Some(number) = as_i16(json) else {
@@ -99,7 +99,7 @@ impl Part for Int16 {
 pub(crate) struct Int32;
 
 impl Part for Int32 {
-    ghost form = { forms.int32_form };
+    ghost input = { inputs.int32_input };
 
     fn put(alloc: Global, json: &Value, out: &mut Vec<u8>) -> Result<(), PartFault> {
         let Some(number) = as_i32(json) else {
@@ -113,7 +113,7 @@ impl Part for Int32 {
 pub(crate) struct Int64;
 
 impl Part for Int64 {
-    ghost form = { forms.int64_form };
+    ghost input = { inputs.int64_input };
 
     fn put(alloc: Global, json: &Value, out: &mut Vec<u8>) -> Result<(), PartFault> {
         let Some(number) = json.as_i64() else {
@@ -127,7 +127,7 @@ impl Part for Int64 {
 pub(crate) struct Uint16;
 
 impl Part for Uint16 {
-    ghost form = { forms.uint16_form };
+    ghost input = { inputs.uint16_input };
 
     fn put(alloc: Global, json: &Value, out: &mut Vec<u8>) -> Result<(), PartFault> {
         let Some(number) = as_u16(json) else {
@@ -141,7 +141,7 @@ impl Part for Uint16 {
 pub(crate) struct Boolean;
 
 impl Part for Boolean {
-    ghost form = { forms.boolean_form };
+    ghost input = { inputs.boolean_input };
 
     fn put(alloc: Global, json: &Value, out: &mut Vec<u8>) -> Result<(), PartFault> {
         let Some(value) = json.as_bool() else {
@@ -157,7 +157,7 @@ impl Part for Boolean {
 pub(crate) struct Str;
 
 impl Part for Str {
-    ghost form = { forms.text_form };
+    ghost input = { inputs.text_input };
 
     fn put(alloc: Global, json: &Value, out: &mut Vec<u8>) -> Result<(), PartFault> {
         let Some(text) = json.as_str() else {
@@ -175,7 +175,7 @@ impl Part for Str {
 pub(crate) struct NullableStr;
 
 impl Part for NullableStr {
-    ghost form = { forms.nullable_text_form };
+    ghost input = { inputs.nullable_text_input };
 
     #[tactic(auto, using(crate::proofs::Texts::text_put, crate::proofs::Texts::text_null))]
     fn put(alloc: Global, json: &Value, out: &mut Vec<u8>) -> Result<(), PartFault> {
@@ -188,8 +188,8 @@ impl Part for NullableStr {
 }
 
 // The bytes that a text is in base64.
-fn decoded(alloc: Global, text: &str) -> Result<Vec<u8>, PartFault>
-    ensures { Found (λ bytes. bytes.items) result (forms.sixteen (decode_of url_safe_no_pad
+fn id_bytes(alloc: Global, text: &str) -> Result<Vec<u8>, PartFault>
+    ensures { Found (λ bytes. bytes.items) result (inputs.sixteen (decode_of url_safe_no_pad
         text.now)) }
 {
     match URL_SAFE_NO_PAD.decode(alloc, text.as_bytes()) {
@@ -208,13 +208,13 @@ fn decoded(alloc: Global, text: &str) -> Result<Vec<u8>, PartFault>
 pub(crate) struct Uuid;
 
 impl Part for Uuid {
-    ghost form = { forms.uuid_form };
+    ghost input = { inputs.uuid_input };
 
     fn put(alloc: Global, json: &Value, out: &mut Vec<u8>) -> Result<(), PartFault> {
         let Some(text) = json.as_str() else {
             return Err(PartFault::BadField);
         };
-        let bytes = decoded(alloc, text)?;
+        let bytes = id_bytes(alloc, text)?;
         put_bytes(out, bytes.as_slice())?;
         Ok(())
     }
@@ -224,7 +224,7 @@ impl Part for Uuid {
 pub(crate) struct ClientId;
 
 fn put_short(out: &mut Vec<u8>, json: &Value) -> Result<(), PartFault>
-    ensures { PutsForm (forms.plain_form forms.short_text_of (λ text. forms.client_id (Some text))) (view json.now) result
+    ensures { PutsInput (inputs.plain_input inputs.short_text_of (λ text. inputs.client_id (Some text))) (view json.now) result
         out.old.items out.new.items }
 {
     let Some(text) = json.as_str() else {
@@ -239,7 +239,7 @@ fn put_short(out: &mut Vec<u8>, json: &Value) -> Result<(), PartFault>
 }
 
 impl Part for ClientId {
-    ghost form = { forms.client_id_form };
+    ghost input = { inputs.client_id_input };
 
     #[tactic(auto, using(crate::proofs::Texts::client_put, crate::proofs::Texts::client_null))]
     fn put(alloc: Global, json: &Value, out: &mut Vec<u8>) -> Result<(), PartFault> {

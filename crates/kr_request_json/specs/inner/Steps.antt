@@ -1,12 +1,12 @@
 -- What one part appends.
-use Rattle.std.specs.Prelude.{◌≡◌, ℕ, List, ◌++◌, Option, Some, None, Result, Ok, Err, Unit}
+use Rattle.std.specs.Prelude.{◌≡◌, ℕ, List, ◌++◌, Option, Some, None, Result, Ok, Err}
 use Rattle.std.specs.List.{flat_map}
 use Rattle.serde_json.specs.Data.{Data, Items}
 use Rattle.kr_request_json.specs.declared.fault.PartFault.{PartFault}
 use Rattle.kr_request_json.specs.declared.fault.PartFault.TheVariants as parts
 use Rattle.kr_request_json.specs.declared.fault.RequestFault.{RequestFault}
 use Rattle.kr_request_json.specs.declared.fault.RequestFault.TheVariants as faults
-use Rattle.kr_request_json.specs.Forms.{Form, each}
+use Rattle.kr_request_json.specs.Inputs.{JsonInput, each}
 
 -- there is a value, and its bytes were appended
 pub record PutValue {X : Type 0} (found : Option X) (bytes : X → List ℕ) (before after : List ℕ) : Type 0 where
@@ -14,17 +14,17 @@ pub record PutValue {X : Type 0} (found : Option X) (bytes : X → List ℕ) (be
   pub is : found ≡ Some value
   pub wrote : after ≡ before ++ bytes value
 
-abbrev pub Puts : {X : Type 0} → Option X → (X → List ℕ) → Result (Unit {0}) PartFault → List ℕ → List ℕ → Type 0
-Puts found bytes (Ok done) before after = PutValue found bytes before after
-Puts found bytes (Err parts.BadField) before after = found ≡ None
-Puts found bytes (Err parts.NoMemory) before after = Unit {0}
+abbrev pub PutsFound : {X : Type 0} → Option X → (X → List ℕ) → Result (Unit {0}) PartFault → List ℕ → List ℕ → Type 0
+PutsFound found bytes (Ok done) before after = PutValue found bytes before after
+PutsFound found bytes (Err parts.BadField) before after = found ≡ None
+PutsFound found bytes (Err parts.NoMemory) before after = Unit {0}
 
-abbrev pub PutsForm : Form → Data → Result (Unit {0}) PartFault → List ℕ → List ℕ → Type 0
-PutsForm f d = Puts (f.of_json d) f.bytes
+abbrev pub PutsInput : JsonInput → Data → Result (Unit {0}) PartFault → List ℕ → List ℕ → Type 0
+PutsInput f d = PutsFound (f.of_json d) f.bytes
 
 -- each of these items, one behind the other
-abbrev pub PutsItems : Form → Items → Result (Unit {0}) PartFault → List ℕ → List ℕ → Type 0
-PutsItems f ds = Puts (each f.of_json ds) (flat_map f.bytes)
+abbrev pub PutsItems : JsonInput → Items → Result (Unit {0}) PartFault → List ℕ → List ℕ → Type 0
+PutsItems f ds = PutsFound (each f.of_json ds) (flat_map f.bytes)
 
 -- the value as it is seen, or that there is none
 abbrev pub Found : {X Y : Type 0} → (X → Y) → Result X PartFault → Option Y → Type 0
