@@ -1,4 +1,4 @@
--- What is answered to the body of a question of each kind. Want of memory is free. This project's own.
+-- What is answered to a question of each kind. Want of memory is free. This project's own.
 use Rattle.std.specs.Prelude.{◌≡◌, ℕ, ℤ, ◌≤◌, ◌<◌, ◌⊎◌, List, [], ◌∷◌, ◌++◌, drop, length, Result, Ok, Err, refl}
 use Rattle.kr_balance.specs.Plan.{plan}
 use Rattle.kr_defs.specs.Image.{Image}

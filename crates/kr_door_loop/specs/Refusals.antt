@@ -1,4 +1,4 @@
--- Why a question isn't answered: the place in its body that is at fault, 0 where that is none, and a name. This project's own.
+-- Why a question isn't answered: a place in its body, 0 for none, and a name. This project's own.
 use Rattle.std.specs.Prelude.{ℕ, List, codes}
 use Rattle.kr_lines.specs.Notes.{fault_name}
 use Rattle.kr_door_loop.specs.declared.refusal.DoorRefusal.{DoorRefusal}

@@ -1,4 +1,4 @@
--- Messages of requests from JSON: the answer. This project's own.
+-- Messages of requests from JSON. This project's own.
 use Rattle.std.specs.Prelude.{ℕ, List, Result, Ok, Err}
 use Rattle.kr_request_json.specs.declared.fault.RequestFault.TheVariants as faults
 use Rattle.kr_request_json.specs.Messages.{IsAnswerTo, message_of_text}

@@ -1,9 +1,9 @@
 -- The items of an array, put one behind the other.
-use Rattle.std.proofs.Common.{◌≡◌, ◌∙◌, ℕ, ◌+◌, ◌<◌, ◌≤◌, List, [], ◌∷◌, ◌++◌, length, get_or, drop, append-nil, append_assoc, Option, Some, None, Result, Ok, Err, refl, sym, ap, subst, arith}
-use Rattle.std.specs.Prelude.{option_and_then, option_map}
+use Rattle.std.proofs.Common.{◌≡◌, ◌∙◌, ℕ, suc, ◌+◌, ◌<◌, ◌≤◌, List, [], ◌∷◌, ◌++◌, length, get_or, drop, append-nil, append_assoc, Option, Some, None, Result, Ok, Err, refl, sym, ap, subst, arith}
+use Rattle.std.specs.Prelude.{option_and_then, option_map, unwrap_or}
 use Rattle.std.specs.List.{flat_map}
 use Rattle.std.proofs.lemmas.Grind.{flat_map-append}
-use Rattle.std.proofs.lemmas.List.{at_drop_more, drop-past}
+use Rattle.std.proofs.lemmas.List.{at_drop_more, drop_all}
 use Rattle.serde_json.specs.Data.{Data, Items, no_items, item}
 use Rattle.serde_json.specs.Find.{as_array}
 use Rattle.serde_json.specs.View.{items_view, view}
@@ -28,17 +28,14 @@ module _ {X : Type 0} (one : Data → Option X) where
   regroup front x None = refl
   regroup front x (Some xs) = ap (λ (l : List X). Some l) (sym (append_assoc front (x ∷ []) xs))
 
+  counted : (n : ℕ) (x : Option X) (others : Option (List X)) (xs : List X) → ((ys : List X) → others ≡ Some ys → length ys ≡ n) → option_and_then (λ y. option_map (λ ys. y ∷ ys) others) x ≡ Some xs → length xs ≡ suc n
+  counted n None others xs long is = absurd cc
+  counted n (Some x) None xs long is = absurd cc
+  counted n (Some x) (Some ys) xs long is = ap (λ (o : Option (List X)). length (unwrap_or o [])) (sym is) ∙ ap suc (long ys refl)
+
   pub as_many : (vs : List Value) (xs : List X) → each one (items_view vs) ≡ Some xs → length xs ≡ length vs
-  as_many [] xs is = ap (λ (o : Option (List X)). elim o [ None ↦ 0 | Some l ↦ length l ]) (sym is)
-  as_many (v ∷ vs) xs is =
-      elim (one (view v)) as (λ o. one (view v) ≡ o → length xs ≡ length (v ∷ vs)) [
-        | None ↦ λ e. (let clash : None ≡ Some xs = rw e at is in cc)
-        | Some x ↦ λ e. elim (each one (items_view vs)) as (λ o. each one (items_view vs) ≡ o → length xs ≡ length (v ∷ vs)) [
-          | None ↦ λ h. (let clash : None ≡ Some xs = rw (e, h) at is in cc)
-          | Some ys ↦ λ h. (let same : Some (x ∷ ys) ≡ Some xs = rw (e, h) at is in
-              ap (λ (o : Option (List X)). elim o [ None ↦ 0 | Some l ↦ length l ]) (sym same) ∙ ap (λ (n : ℕ). n + 1) (as_many vs ys h))
-        ] refl
-      ] refl
+  as_many [] xs is = ap (λ (o : Option (List X)). length (unwrap_or o [])) (sym is)
+  as_many (v ∷ vs) xs is = counted (length vs) (one (view v)) (each one (items_view vs)) xs (as_many vs) is
 
 -- the values of some items were put
 pub record PutSome (f : JsonInput) (items : List Value) (i : ℕ) (before out : List ℕ) : Type 0 where
@@ -73,7 +70,7 @@ module _ (f : JsonInput) (items : List Value) where
 
   pub all_put : (i : ℕ) (before out : List ℕ) → PutSome f items i before out → length items ≤ i → PutsItems f (items_view items) (Ok tt) before out
   all_put i before out so_far past =
-      let none : drop i items ≡ [] = drop-past items i past in
+      let none : drop i items ≡ [] = drop_all i items past in
       let found : with_front f.of_json so_far.front (each f.of_json (items_view (drop i items))) ≡ Some so_far.front = rw none (ap (λ (l : List f.Value). Some l) (append-nil so_far.front)) in
       record { value = so_far.front; is = sym so_far.is ∙ found; wrote = so_far.wrote }
 

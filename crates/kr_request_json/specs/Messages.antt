@@ -1,4 +1,4 @@
--- The message of the request that a text is in JSON, or the first reason why there is none.
+-- The message of a request's JSON, or the first reason why there is none.
 use Rattle.std.specs.Prelude.{◌≡◌, ℕ, ℤ, List, Option, Some, None, option_map, Result, Ok, Err, codes, if◌then◌else◌}
 use Rattle.std.specs.Str.{is_utf8}
 use Rattle.serde_json.specs.Data.{Data}

@@ -1,4 +1,4 @@
--- Bodies of requests, field by field as in Kafka's schemas, of the versions that are served.
+-- Bodies of requests, field by field as in Kafka's schemas.
 use Rattle.std.specs.Prelude.{codes}
 use Rattle.kr_request_json.specs.Inputs.{JsonInput, ◌≔◌, ◌⋄◌, array_input, boolean_input, int8_input, int16_input, int32_input, int64_input, no_more, nullable_array_input, nullable_text_input, text_input, uint16_input, uuid_input}
 
