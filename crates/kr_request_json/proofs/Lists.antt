@@ -12,7 +12,7 @@ use Rattle.kr_wire.specs.Spelling.{count, list}
 use Rattle.kr_request_json.specs.declared.fault.PartFault.{PartFault}
 use Rattle.kr_request_json.specs.declared.fault.PartFault.TheVariants as parts
 use Rattle.kr_request_json.specs.Inputs.{JsonInput, array_input, each}
-use Rattle.kr_request_json.specs.inner.Steps.{PutsInput, PutsItems}
+use Rattle.kr_request_json.specs.inner.Steps.{Lacks, PutsInput, PutsItems}
 use Rattle.kr_request_json.proofs.Fields.{joined}
 
 module _ {X : Type 0} (one : Data → Option X) where
@@ -62,11 +62,11 @@ module _ (f : JsonInput) (items : List Value) where
               ∙ ap (λ (l : List ℕ). before ++ l) (sym (flat_map-append f.bytes so_far.front (put.value ∷ []) ∙ ap (λ (l : List ℕ). flat_map f.bytes so_far.front ++ l) (append-nil (f.bytes put.value))));
         }
 
-    pub one_refused : (fault : PartFault) (mid after : List ℕ) → i < length items → v ≡ get_or items i v → PutsInput f (view v) (Err fault) out mid → PutsItems f (items_view items) (Err fault) before after
-    one_refused parts.BadField mid after low same refused =
+    pub one_refused : (fault : PartFault) → i < length items → v ≡ get_or items i v → Lacks fault (f.of_json (view v)) → Lacks fault (each f.of_json (items_view items))
+    one_refused parts.BadField low same refused =
         let now : each f.of_json (items_view (drop i items)) ≡ None = step low same ∙ rw refused refl in
         sym so_far.is ∙ rw now refl
-    one_refused parts.NoMemory mid after low same refused = tt
+    one_refused parts.NoMemory low same refused = tt
 
   pub all_put : (i : ℕ) (before out : List ℕ) → PutSome f items i before out → length items ≤ i → PutsItems f (items_view items) (Ok tt) before out
   all_put i before out so_far past =
@@ -84,3 +84,6 @@ module _ (f : JsonInput) (items : List Value) where
   }
   list_put d (Err parts.BadField) before mid after found counted put = rw (found, put) refl
   list_put d (Err parts.NoMemory) before mid after found counted put = tt
+
+  pub no_array : (d : Data) → as_array d ≡ None → (array_input f).of_json d ≡ None
+  no_array d none = rw none refl

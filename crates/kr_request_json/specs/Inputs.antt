@@ -1,11 +1,11 @@
 -- Which value a JSON is, as Kafka's JSON converters read it, and the bytes of a value.
-use Rattle.std.specs.Prelude.{ℕ, ℤ, pos, negsuc, ◌||◌, ◌==◌, Bool, List, [], ◌∷◌, ◌++◌, length, is_some, int_lt, nat_lt, unsigned_abs, Option, Some, None, option_map, option_and_then, Result, Ok, Err, codes, if◌then◌else◌}
+use Rattle.std.specs.Prelude.{ℕ, ℤ, pos, negsuc, ◌||◌, ◌==◌, Bool, List, [], ◌∷◌, ◌++◌, length, is_some, int_lt, nat_lt, Option, Some, None, option_map, option_and_then, Result, Ok, Err, codes, if◌then◌else◌}
 use Rattle.std.specs.Int.{w8, w16, w32, w64}
 use Rattle.base64.specs.Engines.{url_safe_no_pad}
 use Rattle.base64.specs.GeneralPurpose.{decode_of}
 use Rattle.base64.specs.declared.decode.DecodeError.{DecodeError}
 use Rattle.serde_json.specs.Data.{Data, Items, no_items, item}
-use Rattle.serde_json.specs.Find.{as_array, as_bool, as_i64, as_null, as_number, as_str, get}
+use Rattle.serde_json.specs.Find.{as_array, as_bool, as_i64, as_null, as_number, as_str, as_u64, get}
 use Rattle.kr_wire.specs.Spelling as spelling
 
 -- the value that a JSON is, where it is one, and the bytes that are written for a value
@@ -38,8 +38,8 @@ int16_of = integer_of (negsuc 32767) (pos 32767)
 abbrev pub int32_of : Data → Option ℤ
 int32_of = integer_of (negsuc 2147483647) (pos 2147483647)
 
-abbrev pub uint16_of : Data → Option ℤ
-uint16_of = integer_of (pos 0) (pos 65535)
+abbrev pub uint16_of : Data → Option ℕ
+uint16_of d = option_and_then (λ n. if nat_lt 65535 n then None else Some n) (option_and_then as_u64 (as_number d))
 
 abbrev pub int8_input : JsonInput
 int8_input = plain_input int8_of (spelling.signed w8)
@@ -54,7 +54,7 @@ abbrev pub int64_input : JsonInput
 int64_input = plain_input int64_of (spelling.signed w64)
 
 abbrev pub uint16_input : JsonInput
-uint16_input = plain_input uint16_of (λ n. spelling.number w16 (unsigned_abs n))
+uint16_input = plain_input uint16_of (spelling.number w16)
 
 abbrev pub boolean_input : JsonInput
 boolean_input = plain_input as_bool spelling.bool

@@ -28,7 +28,7 @@ pub(crate) struct Array<T>(PhantomData<T>);
 impl<T: Part> Part for Array<T> {
     ghost input = { inputs.array_input T.input };
 
-    #[tactic(auto, using(crate::proofs::Lists::list_put))]
+    #[tactic(auto, using(crate::proofs::Lists::list_put, crate::proofs::Lists::no_array))]
     fn put(alloc: Global, json: &Value, out: &mut Vec<u8>) -> Result<(), PartFault> {
         let Some(list) = json.as_array() else {
             return Err(PartFault::BadField);

@@ -142,6 +142,7 @@ fn put_served(alloc: Global, api: ApiKey, json: &Value) -> Result<Bytes, Request
 }
 
 // The message of a request's JSON.
+#[tactic(auto, using(crate::proofs::Asked::served, crate::proofs::Asked::unserved))]
 fn put_request(alloc: Global, json: &Value) -> Result<Bytes, RequestFault>
     ensures { IsAnswerTo result (request_for (view json.now)) }
 {
@@ -155,7 +156,7 @@ fn put_request(alloc: Global, json: &Value) -> Result<Bytes, RequestFault>
 /// each as Kafka's JSON converters read it. A field of the version that is served is mandatory, any other member is passed over.
 /// Refused is a text that is no JSON, then a key and version that aren't served, then a field that is absent or has no value of its
 /// type; key and version are fields that are looked at before that.
-#[tactic(auto, unfolding(crate::specs::Messages::message_of_text))]
+#[tactic(auto, using(crate::proofs::Asked::asked, crate::proofs::Asked::unread))]
 pub fn request_bytes(alloc: Global, text: &[u8]) -> Result<Bytes, RequestFault>
     ensures { IsAnswerTo result (message_of_text text.now) }
 {

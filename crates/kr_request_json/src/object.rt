@@ -40,8 +40,8 @@ impl<N: FieldName, T: Part, R: Part> Part for Member<N, T, R> {
 
     #[tactic(auto, using(crate::proofs::Fields::field_put, crate::proofs::Fields::field_refused, crate::proofs::Fields::field_missing))]
     fn put(alloc: Global, json: &Value, out: &mut Vec<u8>) -> Result<(), PartFault> {
-        let field = field::<N>(json)?;
-        T::put(alloc, field, out)?;
+        let value = field::<N>(json)?;
+        T::put(alloc, value, out)?;
         R::put(alloc, json, out)
     }
 }

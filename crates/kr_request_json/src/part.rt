@@ -1,9 +1,8 @@
 //! Parts of messages that stand for themselves.
 
-ghost use Rattle.std.specs.Prelude.{◌≡◌, ◌≤ℤ◌, ◌==◌, ℤ, pos, negsuc, length, Option, option_map, option_and_then, is_some, IfSome, MatchResult};
+ghost use Rattle.std.specs.Prelude.{◌≡◌, Some};
 ghost use Rattle.base64.specs.Engines.{url_safe_no_pad};
 ghost use Rattle.base64.specs.GeneralPurpose.{decode_of};
-ghost use Rattle.serde_json.specs.Find.{as_bool, as_str};
 ghost use Rattle.serde_json.specs.View.{view};
 ghost use Rattle.kr_request_json.specs.Inputs as inputs;
 ghost use Rattle.kr_request_json.specs.Inputs.{JsonInput};
@@ -59,10 +58,10 @@ fn as_i32(json: &Value) -> Option<i32>
 }
 
 fn as_u16(json: &Value) -> Option<u16>
-    ensures { option_map (λ n. pos n) result ≡ inputs.uint16_of (view json.now) }
+    ensures { result ≡ inputs.uint16_of (view json.now) }
 {
-    let number = json.as_i64()?;
-    if number < 0 || 65535 < number {
+    let number = json.as_u64()?;
+    if number > 65535 {
         return None;
     }
     Some(number as u16)

@@ -14,5 +14,5 @@ returns g c = all_put _ _ _ _ _ c.loop-item.invariant c.loop-item-test.false
 
 pub returns-in_err-put : goal.returns-in_err-put
 returns-in_err-put g c =
-    let p = err_from_is_err_and c.from_residual-in_err-put.result c.from_residual-in_err-put.ensures.1 in
-    rw (p.1, p.2) (one_refused _ _ _ _ _ c.loop-item.invariant c.item-item.result c.in_err-put.field-0.0 _ _ c.loop-item-test.true c.item-item.is c.in_err-put.ensures)
+    let p = err_from_is_err_and c.from_residual.result c.from_residual.ensures.1 in
+    rw (p.1, p.2) (one_refused _ _ _ _ _ c.loop-item.invariant c.item-item.result c.in_err-put.field-0.0 c.loop-item-test.true c.item-item.is c.in_err-put.ensures)
