@@ -10,7 +10,7 @@ from typing import Any, Iterable, List, Optional, Sequence, Tuple, Type
 from pibranog.values import Elected, Partition
 from pibranog.wire import Reading, array, ids, text
 
-LOG_LINES, IMAGE_LINES, FOLD, IMAGE_BATCHES, ELECT, PLACE, PLAN, REPLY = range(1, 9)
+LOG_LINES, IMAGE_LINES, FOLD, IMAGE_BATCHES, ELECT, PLACE, PLAN, REPLY, REQUEST = range(1, 10)
 CHOICES = ("InSync", "Eligible", "Unclean", "Nobody")
 HERE = os.path.dirname(os.path.dirname(os.path.dirname(os.path.abspath(__file__))))
 
@@ -108,19 +108,21 @@ class Door:
         """The brokers of a partition's replicas, of these with their racks, the first one preferred."""
         listed = array(struct.pack(">i", broker) + text(rack) + b"\0" for broker, rack in brokers)
         answer = Reading(self.ask(PLACE, struct.pack(">qih", start, index, factor) + listed + b"\0"))
-        return [answer.number(4) for _ in range(answer.count())]
+        return answer.ids()
 
     def plan(self, image: bytes, percent: int) -> List[Tuple[str, int]]:
         """The partitions that a round of the balancer gives back to their preferred leaders, where more than so many of a hundred
         of a broker's are led by others: each by its topic's name and its index."""
         answer = Reading(self.ask(PLAN, bytes([percent]) + image))
-        rows = []
-        for _ in range(answer.count()):
-            rows.append((answer.text(), answer.number(4)))
-            answer.tags()
-        return rows
+        return answer.many(lambda: (answer.text(), answer.number(4)))
 
     def reply(self, key: int, version: int, message: bytes) -> dict[str, Any]:
         """A reply's message, without its size, to a request of this key and version: `responseHeader` and `response`, each as Kafka's
         JSON converters of the message schemas show it."""
         return json.loads(self.ask(REPLY, struct.pack(">hh", key, version) + message))
+
+    def request(self, request: dict[str, Any]) -> bytes:
+        """The message, without its size, of a request: `requestHeader`, which names its key and version, and `request`, each as
+        Kafka's JSON converters of the message schemas read it. Refused is raised as `UnknownRequest` where that key and version
+        aren't served, as `BadField` where a field is absent or has no value of its type."""
+        return self.ask(REQUEST, json.dumps(request).encode())

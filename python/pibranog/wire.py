@@ -1,6 +1,8 @@
 """Values as Kafka's protocol has them: numbers with the high byte first, compact texts and lists (docs/FORMATS.md)."""
 import struct
-from typing import Iterable, Optional
+from typing import Callable, Iterable, List, Optional, TypeVar
+
+Item = TypeVar("Item")
 
 
 def uvarint(number: int) -> bytes:
@@ -41,7 +43,7 @@ class Reading:
         """So many bytes."""
         piece = self.data[self.at:self.at + count]
         if len(piece) < count:
-            raise ValueError("the answer is too short")
+            raise ValueError("what comes is too short")
         self.at += count
         return piece
 
@@ -66,6 +68,23 @@ class Reading:
     def text(self) -> str:
         """A text behind its length."""
         return self.take(self.count()).decode()
+
+    def text_or_null(self) -> Optional[str]:
+        """The same, or None for null."""
+        size = self.uvarint()
+        return None if size == 0 else self.take(size - 1).decode()
+
+    def ids(self) -> List[int]:
+        """A list of ids of brokers."""
+        return [self.number(4) for _ in range(self.count())]
+
+    def many(self, read: Callable[[], Item]) -> List[Item]:
+        """A list of structures, each read so and followed by its tagged fields."""
+        found = []
+        for _ in range(self.count()):
+            found.append(read())
+            self.tags()
+        return found
 
     def tags(self) -> None:
         """The tagged fields at the end of a structure, which are passed over."""

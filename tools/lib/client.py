@@ -4,7 +4,7 @@ import functools
 import socket
 import struct
 
-from lib.wire import NoReply, Reading, array, ids, message, text
+from pibranog.wire import Reading, array, ids, text
 
 ERRORS = {
     3: "unknown topic or partition", 5: "no leader", 17: "invalid topic name", 35: "unsupported version",
@@ -16,6 +16,20 @@ ERRORS = {
     101: "the broker is registered already", 102: "the broker isn't registered", 104: "another cluster's id",
     107: "ineligible replica", 108: "new leader elected",
 }
+
+
+class NoReply(Exception):
+    """Nobody answers, or what comes isn't a reply."""
+
+
+class Reply(Reading):
+    """Takes values off the front of a reply."""
+
+    def take(self, count):
+        try:
+            return super().take(count)
+        except ValueError as fault:
+            raise NoReply(str(fault))
 
 
 class Connection:
@@ -51,6 +65,11 @@ class Connection:
 
 WHAT = """Speaks to a running kr_daemon: one request, and its reply in words. The status is 0 where nothing was refused, 1 where
 something was, 2 where the words are wrong or nobody answers."""
+
+
+def message(key, version, body, correlation=1):
+    """A request's message without its size: header, body, no tagged fields."""
+    return struct.pack(">hhih", key, version, correlation, -1) + b"\0" + body + b"\0"
 
 
 # ---- requests: each function gives the message and the function that tells the reply in lines
@@ -96,7 +115,7 @@ def create(o):
         r.number(4)
 
         def topic():
-            name, number, error, _ = r.text(), r.take(16), r.number(2), r.text()
+            name, number, error, _ = r.text_or_null(), r.take(16), r.number(2), r.text_or_null()
             partitions, factor, _ = r.number(4), r.number(2), r.uvarint()
             made = f"created, {partitions} partitions of {factor} replicas, id {number.hex()}"
             return error, f"topic {name}: " + (made if error == 0 else said(error))
@@ -106,13 +125,13 @@ def create(o):
 
 def describe(o):
     topics = [bytes(16) + text(name) + b"\0" for name in o.topics] if o.topics else None
-    body = array(topics) + b"\0\0"
+    body = (b"\0" if topics is None else array(topics)) + b"\0\0"
 
     def tell(r):
         r.number(4)
 
         def broker():
-            number, host, port, rack = r.number(4), r.text(), r.number(4), r.text()
+            number, host, port, rack = r.number(4), r.text_or_null(), r.number(4), r.text_or_null()
             return 0, f"broker {number}: at {host}:{port}" + ("" if rack is None else f", rack {rack}")
 
         def partition():
@@ -122,12 +141,12 @@ def describe(o):
             return f"  partition {index}: {led} in epoch {epoch}, replicas {listed(replicas)}, in sync {listed(in_sync)}"
 
         def topic():
-            error, name, number, _ = r.number(2), r.text(), r.take(16), r.number(1)
+            error, name, number, _ = r.number(2), r.text_or_null(), r.take(16), r.number(1)
             lines = [f"topic {name}: " + (f"id {number.hex()}" if error == 0 else said(error))] + r.many(partition)
             r.number(4)
             return error, "\n".join(lines)
         yield from r.many(broker)
-        cluster, _ = r.text(), r.number(4)
+        cluster, _ = r.text_or_null(), r.number(4)
         yield 0, f"cluster {cluster}"
         yield from r.many(topic)
     return message(3, 12, body), tell
@@ -151,13 +170,13 @@ def page(o, cursor=None):
         r.number(4)
 
         def topic():
-            error, name, number, _ = r.number(2), r.text(), r.take(16), r.number(1)
+            error, name, number, _ = r.number(2), r.text_or_null(), r.take(16), r.number(1)
             lines = [f"topic {name}: " + (f"id {number.hex()}" if error == 0 else said(error))] + r.many(lambda: told_part(r))
             r.number(4)
             return error, "\n".join(lines)
         yield from r.many(topic)
         if r.number(1) == 1:
-            o.cursor = r.text(), r.number(4)
+            o.cursor = r.text_or_null(), r.number(4)
             r.tags()
         else:
             o.cursor = None
@@ -183,7 +202,7 @@ def requests(o):
 def answers(connection, o):
     """Each error and its line, as they come."""
     for request, tell in requests(o):
-        reply = Reading(connection.ask(request))
+        reply = Reply(connection.ask(request))
         reply.number(4)
         reply.tags()
         # A reply to what is no call has an error alone.
@@ -203,7 +222,7 @@ def alter(o):
         r.number(4)
 
         def resource():
-            error, _, kind, name = r.number(2), r.text(), r.number(1), r.text()
+            error, _, kind, name = r.number(2), r.text_or_null(), r.number(1), r.text_or_null()
             what = f"topic {name}" if kind == 2 else f"broker {name}" if name else "every broker"
             return error, f"settings of {what}: {said(error)}"
         yield from r.many(resource)
@@ -213,10 +232,10 @@ def alter(o):
 def told_partitions(r):
     """The topics of a reply, each with its partitions and their errors."""
     def topic():
-        name = r.text()
+        name = r.text_or_null()
 
         def partition():
-            index, error, _ = r.number(4), r.number(2), r.text()
+            index, error, _ = r.number(4), r.number(2), r.text_or_null()
             return error, f"topic {name} partition {index}: {said(error)}"
         return r.many(partition)
     for lines in r.many(topic):
@@ -236,12 +255,12 @@ def elect(o):
 
 
 def reassign(o):
-    partition = struct.pack(">i", o.partition) + (ids(o.brokers) or b"\0") + b"\0"
+    partition = struct.pack(">i", o.partition) + (b"\0" if o.brokers is None else ids(o.brokers)) + b"\0"
     body = struct.pack(">i", 30000) + array([text(o.topic) + array([partition]) + b"\0"])
 
     def tell(r):
         r.number(4)
-        error, _ = r.number(2), r.text()
+        error, _ = r.number(2), r.text_or_null()
         if error:
             yield error, f"reassignment: {said(error)}"
         yield from told_partitions(r)

@@ -1,7 +1,7 @@
 """Images of clusters, in bytes (docs/FORMATS.md, "Images"): brokers, and topics with partitions."""
 import struct
 
-from lib.wire import array, ids, text, uvarint
+from pibranog.wire import array, ids, text, uvarint
 
 TABLE = []
 for number in range(256):

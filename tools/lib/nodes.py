@@ -14,7 +14,6 @@ from lib.batches import look
 from lib.daemon import DAEMON, LINK, TOOL, is_open
 from lib.gateway import Gateway
 from lib.store import Unknown
-from lib.wire import Reading
 
 ETCD = shlex.split(os.environ.get("ETCD", "etcd"))
 QUORUM = f"{ROOT}/tools/quorum"
@@ -195,7 +194,7 @@ def request_of(words):
 
 def told(reply, tell):
     """The lines of a reply, each with its error; a bare reply is its error alone."""
-    reply = Reading(reply)
+    reply = client.Reply(reply)
     reply.number(4)
     reply.tags()
     return [(reply.number(2), "")] if len(reply.data) == 7 else list(tell(reply))

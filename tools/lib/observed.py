@@ -13,7 +13,6 @@ from lib.file_store import FileStore, Unusable
 from lib.gateway import Gateway
 from lib.log_state import LogState
 from lib.store import Unknown
-from lib.wire import NoReply, Reading, message
 
 SECONDS = 2              # for which a daemon may keep a reply back
 STALE = 5                # seconds after which a link that writes nothing counts as silent
@@ -41,7 +40,7 @@ class Metadata(NamedTuple):
 
 def body_of(reply):
     """Behind the reply's header."""
-    r = Reading(reply)
+    r = client.Reply(reply)
     r.number(4)
     r.tags()
     return r
@@ -52,10 +51,10 @@ def metadata_of(reply):
     r.number(4)
 
     def broker():
-        return r.number(4), (r.text(), r.number(4), r.text())
+        return r.number(4), (r.text_or_null(), r.number(4), r.text_or_null())
 
     def topic():
-        _, name, _, _ = r.number(2), r.text(), r.take(16), r.number(1)
+        _, name, _, _ = r.number(2), r.text_or_null(), r.take(16), r.number(1)
         found = r.many(lambda: partition(name))
         r.number(4)
         return name, found
@@ -64,7 +63,7 @@ def metadata_of(reply):
         _, index, leader, epoch = r.number(2), r.number(4), r.number(4), r.number(4)
         return Partition(name, index, leader, epoch, r.ids(), r.ids(), r.ids())
     addresses = dict(r.many(broker))
-    cluster, _ = r.text(), r.number(4)
+    cluster, _ = r.text_or_null(), r.number(4)
     topics = r.many(topic)
     return Metadata(cluster, addresses, [name for name, _ in topics], [one for _, found in topics for one in found])
 
@@ -72,10 +71,10 @@ def metadata_of(reply):
 def moves_of(reply):
     """The (adding, removing) replicas of each partition under reassignment, by topic and index."""
     r = body_of(reply)
-    _, _, _ = r.number(4), r.number(2), r.text()
+    _, _, _ = r.number(4), r.number(2), r.text_or_null()
 
     def topic():
-        name = r.text()
+        name = r.text_or_null()
 
         def partition():
             index, _ = r.number(4), r.ids()
@@ -86,7 +85,7 @@ def moves_of(reply):
 
 # ---- one node
 
-READS = client.message_of("describe"), message(46, 0, struct.pack(">i", 0) + b"\0")
+READS = client.message_of("describe"), client.message(46, 0, struct.pack(">i", 0) + b"\0")
 WRITE = client.message_of("alter x=y --dry")     # changes nothing, and is refused on standby
 
 
@@ -122,7 +121,7 @@ def look_at(address, path):
             leads = line.ask(WRITE)[10:12] == b"\0\0"
         finally:
             line.socket.close()
-    except NoReply as found:
+    except client.NoReply as found:
         fault = str(found)
     return Node(address, replies, leads, fault, status, silent)
 
@@ -218,7 +217,7 @@ class Observer:
         shows = max((node for node in nodes if node.replies), key=rank, default=None)
         try:
             metadata, moves = (metadata_of(shows.replies[0]), moves_of(shows.replies[1])) if shows else (None, {})
-        except (NoReply, ValueError):                        # who answers there is no controller
+        except (client.NoReply, ValueError):                        # who answers there is no controller
             shows, metadata, moves = None, None, {}
         log = self._follow(next((node.status["store"] for node in nodes if node.status), None)) or log_of(nodes)
         is_told = self.store is not None

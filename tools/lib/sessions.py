@@ -5,7 +5,7 @@ import sys
 import tempfile
 
 from lib.frames import frame
-from lib.wire import uvarint
+from pibranog.wire import uvarint
 
 CLUSTER = b"bench"
 SALT = 1

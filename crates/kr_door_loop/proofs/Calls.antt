@@ -109,6 +109,9 @@ module _ (percent : ℕ) (body bytes : List ℕ) (parts : body ≡ percent ∷ b
   has_no_plan refusals.BadNumber none = absurd none
   has_no_plan refusals.Repeated none = absurd none
   has_no_plan refusals.TooFew none = absurd none
+  has_no_plan refusals.NotJson none = absurd none
+  has_no_plan refusals.UnknownRequest none = absurd none
+  has_no_plan refusals.BadField none = absurd none
 
 -- ---- a value
 

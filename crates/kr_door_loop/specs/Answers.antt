@@ -1,4 +1,4 @@
--- What is answered to the body of a question of each kind. Want of memory is free. This project's own.
+-- What is answered to a question of each kind. Want of memory is free. This project's own.
 use Rattle.std.specs.Prelude.{◌≡◌, ℕ, ℤ, ◌≤◌, ◌<◌, ◌⊎◌, List, [], ◌∷◌, ◌++◌, drop, length, Result, Ok, Err, refl}
 use Rattle.kr_balance.specs.Plan.{plan}
 use Rattle.kr_defs.specs.Image.{Image}
@@ -17,6 +17,7 @@ use Rattle.kr_door_loop.specs.declared.refusal.DoorRefusal.TheVariants as refusa
 use Rattle.kr_door_loop.specs.Elections.{elect_question, elects}
 use Rattle.kr_door_loop.specs.Placements.{place_question, places}
 use Rattle.kr_door_loop.specs.Replies.{AnswersReply}
+use Rattle.kr_door_loop.specs.Requests.{AnswersRequest}
 
 -- bytes, or a refusal
 abbrev pub Answer : Type 0
@@ -137,3 +138,4 @@ AnswersKind kinds.Elect = AnswersValue (Is elect_question) elects
 AnswersKind kinds.Place = AnswersValue (Is place_question) places
 AnswersKind kinds.Plan = PlansLeaders
 AnswersKind kinds.Reply = AnswersReply
+AnswersKind kinds.Request = AnswersRequest

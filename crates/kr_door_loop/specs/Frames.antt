@@ -1,4 +1,4 @@
--- Frames of questions and answers: a size of what is behind it, a kind, and a body. This project's own.
+-- Frames of questions and answers. This project's own.
 use Rattle.std.specs.Prelude.{◌≡◌, ℕ, ◌+◌, ◌^◌, ◌<◌, ◌≤◌, List, [], ◌∷◌, ◌++◌, length, Result, Ok, Err}
 use Rattle.std.specs.List.{flat_map}
 use Rattle.std.specs.Int.{w32, w64}

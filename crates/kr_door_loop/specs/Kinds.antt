@@ -12,3 +12,4 @@ question_number kinds.Elect = 5
 question_number kinds.Place = 6
 question_number kinds.Plan = 7
 question_number kinds.Reply = 8
+question_number kinds.Request = 9

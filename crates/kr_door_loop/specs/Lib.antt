@@ -3,6 +3,7 @@ pub mod Refusals
 pub mod Placements
 pub mod Elections
 pub mod Replies
+pub mod Requests
 pub mod Answers
 pub mod Frames
 pub mod Endings

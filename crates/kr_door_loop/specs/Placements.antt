@@ -1,4 +1,4 @@
--- Where the replicas of a partition are placed: the question's layout, and its answer. This project's own.
+-- Where replicas are placed: the question's layout, and its answer. This project's own.
 use Rattle.std.specs.Prelude.{ℕ, ℤ, pos, ◌+◌, Bool, ◌||◌, List, [], ◌∷◌, ◌++◌, length, nat_lt, int_lt, unsigned_abs, Option, Some, None, Result, Ok, Err, refl, if◌then◌else◌}
 use Rattle.std.specs.List.{list_any}
 use Rattle.std.specs.Ordering.{int_eq}

@@ -1,4 +1,4 @@
--- Why a question isn't answered: the place in its body that is at fault, 0 where that is none, and a name. This project's own.
+-- Why a question isn't answered: a place in its body, 0 for none, and a name. This project's own.
 use Rattle.std.specs.Prelude.{ℕ, List, codes}
 use Rattle.kr_lines.specs.Notes.{fault_name}
 use Rattle.kr_door_loop.specs.declared.refusal.DoorRefusal.{DoorRefusal}
@@ -18,4 +18,7 @@ refusal_name (refusals.Malformed at) = codes "Malformed"
 refusal_name refusals.BadNumber = codes "BadNumber"
 refusal_name refusals.Repeated = codes "Repeated"
 refusal_name refusals.TooFew = codes "TooFew"
+refusal_name refusals.NotJson = codes "NotJson"
+refusal_name refusals.UnknownRequest = codes "UnknownRequest"
+refusal_name refusals.BadField = codes "BadField"
 refusal_name refusals.NoMemory = codes "NoMemory"

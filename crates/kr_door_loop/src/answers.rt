@@ -10,6 +10,7 @@ use crate::lines::{show_image, show_log};
 use crate::logs::fold_log;
 use crate::placements::place_replicas;
 use crate::replies::show_reply;
+use crate::requests::write_request;
 use crate::{Answer, DoorRefusal, QuestionKind};
 use std::alloc::Global;
 
@@ -25,6 +26,7 @@ fn answer_of(alloc: Global, kind: QuestionKind, body: &[u8]) -> Answer
         QuestionKind::Place => place_replicas(alloc, body),
         QuestionKind::Plan => plan_leaders(alloc, body),
         QuestionKind::Reply => show_reply(alloc, body),
+        QuestionKind::Request => write_request(alloc, body),
     }
 }
 

@@ -23,6 +23,8 @@ pub enum QuestionKind {
     Plan,
     /// Number 8: a reply as JSON.
     Reply,
+    /// Number 9: the message of a request from JSON.
+    Request,
 }
 
 impl QuestionKind {
@@ -40,6 +42,7 @@ impl QuestionKind {
             6 => Some(QuestionKind::Place),
             7 => Some(QuestionKind::Plan),
             8 => Some(QuestionKind::Reply),
+            9 => Some(QuestionKind::Request),
             _ => None,
         }
     }

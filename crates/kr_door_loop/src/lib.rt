@@ -15,6 +15,7 @@ mod placements;
 mod questions;
 mod refusal;
 mod replies;
+mod requests;
 
 pub use kind::QuestionKind;
 use kr_defs::Bytes;

@@ -37,6 +37,15 @@ pub enum DoorRefusal {
     /// More brokers are asked for than there are.
     #[error("more brokers are asked for than there are")]
     TooFew,
+    /// The text is no JSON.
+    #[error("the text is no JSON")]
+    NotJson,
+    /// No request of this key and version is served.
+    #[error("no request of this key and version is served")]
+    UnknownRequest,
+    /// A field is absent, or its JSON has no value of its type.
+    #[error("a field is absent or has no value of its type")]
+    BadField,
     #[error("out of memory")]
     NoMemory,
 }
@@ -80,6 +89,9 @@ pub(crate) fn refusal_name(refusal: &DoorRefusal) -> &'static str
         DoorRefusal::BadNumber => "BadNumber",
         DoorRefusal::Repeated => "Repeated",
         DoorRefusal::TooFew => "TooFew",
+        DoorRefusal::NotJson => "NotJson",
+        DoorRefusal::UnknownRequest => "UnknownRequest",
+        DoorRefusal::BadField => "BadField",
         DoorRefusal::NoMemory => "NoMemory",
     }
 }

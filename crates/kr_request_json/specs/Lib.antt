@@ -1,0 +1,4 @@
+pub mod Inputs
+pub mod Messages
+pub mod Requests
+pub mod inner
