@@ -105,6 +105,10 @@ pub record Knows (d : Node) (least : ℕ) (w : World) : Type 0 where
 abbrev pub all_stored : List Batch → List StoredBatch
 all_stored bs = map (λ (b : Batch). stored b) bs
 
+-- where a batch of records at its tip ends
+abbrev end_with : State → List Record → ℕ
+end_with s records = tip s.world.log + length (as_items records)
+
 module _ (at least : ℕ) where
   -- with what it appended
   pub record KnowsAll (own : List StoredBatch) (w : World) : Type 0 where
@@ -116,18 +120,13 @@ module _ (at least : ℕ) where
   one_known s own h [] = subst (λ (bs : List StoredBatch). KnowsAll bs s.world) (sym (append-nil own)) h
   one_known s own h (r ∷ rs) = by_tests (length (as_items (r ∷ rs)) == 0) (length (r ∷ rs) == 0) (not_none (length (as_items rs))) (not_none (length rs))
     where
-      abbrev long : Log
-      long = log_with s.world.log (as_items (r ∷ rs))
-
-      abbrev up : ℕ
-      up = tip s.world.log + length (as_items (r ∷ rs))
-
       by_tests : (a b : Bool) → a ≡ false → b ≡ false
-          → KnowsAll (own ++ all_stored (cond b [] (next_batch s (r ∷ rs) ∷ []))) (cond a s.world (record s.world { log = long; batch_ends = s.world.batch_ends ++ up ∷ [] }))
+          → KnowsAll (own ++ all_stored (cond b [] (next_batch s (r ∷ rs) ∷ []))) (cond a s.world (record s.world { log = log_with s.world.log (as_items (r ∷ rs)); batch_ends = s.world.batch_ends ++ end_with s (r ∷ rs) ∷ [] }))
       by_tests true b is g = absurd cc
       by_tests false true g is = absurd cc
       by_tests false false g is =
           let b = stored (next_batch s (r ∷ rs)) in
+          let up : ℕ = end_with s (r ∷ rs) in
           let end : behind at own + b.count ≡ up = ap (λ (n : ℕ). n + length (as_items (r ∷ rs))) h.tip in
           record {
             ends = among_one s.world.batch_ends at own b up h.ends end;

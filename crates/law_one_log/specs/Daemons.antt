@@ -1,4 +1,4 @@
--- Daemons over links and their store: each is a controller, whose events are the frames that its link hands to it, and those of its own.
+-- Daemons over links: controllers, whose events are the frames that come, and those of their own.
 use Rattle.std.specs.Prelude.{◌≡◌, ℕ, ℤ, pos, List, [], ◌∷◌, ◌++◌, map, false, fold, Result, Ok, Err}
 use Rattle.std.specs.List.{AllByRecursion}
 use Rattle.kr_batch.specs.declared.Batch.{Batch}

@@ -1,4 +1,4 @@
--- Whatever the turns were, there is one log, all that daemons say is of it, and they refuse nothing that is handed to them.
+-- There is one log: all that daemons say is of it, and they refuse nothing.
 use Rattle.std.specs.Prelude.{◌≡◌, ℕ, ℤ, List, take, fold, IsOk}
 use Rattle.std.specs.List.{AllByRecursion}
 use Rattle.kr_batch.specs.declared.Batch.{Batch}
