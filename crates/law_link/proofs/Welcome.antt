@@ -75,7 +75,7 @@ module _ (frame : Frame) (least : ℕ) (rest : List Frame) (d v : Node) (won : L
           }
 
 module _ (make : List Batch → List ℕ) where
-  abbrev AscentOf : (ℕ → ℕ) → Network → ℕ → Type 0
+  abbrev pub AscentOf : (ℕ → ℕ) → Network → ℕ → Type 0
   AscentOf leasts n j = IsAscent (leasts j) (n.frames j) (n.web.cluster.nodes j) (n.web.links j).won (n.web.links j).held
 
   module _ (n : Network) (h : IsNetwork make n) (leasts : ℕ → ℕ) (all : (j : ℕ) → AscentOf leasts n j) where
@@ -161,7 +161,7 @@ module _ (make : List Batch → List ℕ) where
         (subst (λ (fs : List Frame). IsUnderWay make n.web.cluster.point k (n.daemons k) fs (v k) (l k).won (l k).held) is (h.way k))
         (subst (λ (fs : List Frame). IsAscent (leasts k) fs (v k) (l k).won (l k).held) is (all k))) all
 
-    ascends : (step : NetworkStep) → MayHappen make n step → Rises n step → (j : ℕ) → AscentOf (leasts_after leasts step) (network_after n step) j
+    pub ascends : (step : NetworkStep) → MayHappen make n step → Rises n step → (j : ℕ) → AscentOf (leasts_after leasts step) (network_after n step) j
     ascends (Act step) a r j = acts step a r j
     ascends (Arrive k frame rest) a r j = arrives k frame rest a j
     ascends (Emit k b) a r j = emits k b (leads_epoch (v k).leads b.epoch) j
@@ -183,7 +183,7 @@ module _ (make : List Batch → List ℕ) where
     )
     welcome_by k (Lost epoch) rest a r = a
 
-    welcome : (step : NetworkStep) → MayHappen make n step → IsWelcomeStep n leasts step
+    pub welcome : (step : NetworkStep) → MayHappen make n step → IsWelcomeStep n leasts step
     welcome (Arrive k frame rest) is =
         welcome_by k frame rest
         (subst (λ (fs : List Frame). IsUnderWay make n.web.cluster.point k (n.daemons k) fs (v k) (l k).won (l k).held) is (h.way k)).reaches.0
@@ -191,6 +191,9 @@ module _ (make : List Batch → List ℕ) where
     welcome (Act step) a = tt
     welcome (Emit k b) a = tt
     welcome (Snapshot k image) a = tt
+
+  pub first_ascent : (j : ℕ) → AscentOf (λ k. 0) no_network j
+  first_ascent j = record { low = λ x below. omega arith; rise = tt; next = λ standby e is. (let x : None ≡ Some e = is in absurd cc) }
 
   all_welcome : (n : Network) (leasts : ℕ → ℕ) (steps : List NetworkStep) → IsNetwork make n → ((j : ℕ) → AscentOf leasts n j) → AllMayHappen make n steps → AllRise n steps
       → AllWelcome n leasts steps
@@ -202,4 +205,4 @@ module _ (make : List Batch → List ℕ) where
 
 pub nothing_is_refused : NothingIsRefused
 nothing_is_refused make steps a r =
-    all_welcome make no_network (λ k. 0) steps (first_network make) (λ j. record { low = λ x below. omega arith; rise = tt; next = λ standby e is. (let x : None ≡ Some e = is in absurd cc) }) a r
+    all_welcome make no_network (λ k. 0) steps (first_network make) (first_ascent make) a r

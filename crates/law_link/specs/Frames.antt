@@ -1,4 +1,4 @@
--- Frames under way: a daemon takes what was handed in later, and what it gives reaches its link later.
+-- Frames under way, to daemons and from them.
 use Rattle.std.specs.Prelude.{◌≡◌, ◌<◌, ℕ, Bool, false, List, [], ◌∷◌, ◌++◌, cond, Option, None, Some, nat_eq, fold, flat_map}
 use Rattle.law_quorum.specs.Batches.{Batch, StoredImage, behind}
 use Rattle.law_quorum.specs.History.{Point}

@@ -1,4 +1,4 @@
--- What links hand in is what they may, also where it is under way for a while.
+-- Links hand in what they may.
 use Rattle.std.specs.Prelude.{◌≡◌, ℕ, List, ◌∷◌, ◌++◌, fold}
 use Rattle.law_quorum.specs.Batches.{Batch, BatchStandsAt}
 use Rattle.law_quorum.specs.Nodes.{AreAllowed, at_first}

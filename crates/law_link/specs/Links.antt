@@ -1,4 +1,4 @@
--- Links between daemons and the store: what each knows, what it asks, and what it then hands its daemon.
+-- Links: what each knows, asks of the store, and hands its daemon.
 use Rattle.std.specs.Prelude.{◌≡◌, ◌<◌, ◌⊎◌, ℕ, List, [], ◌∷◌, ◌++◌, cond, Option, None, Some, nat_eq, fold}
 use Rattle.law_quorum.specs.Batches.{Batch, StoredImage, BatchStandsAt, ImageStandsFor, behind}
 use Rattle.law_quorum.specs.Changes.{Append, Change, Drop}

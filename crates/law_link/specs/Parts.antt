@@ -1,4 +1,4 @@
--- Values in parts, each part put by a transaction of its own before the one that refers to the whole, and under the same comparison.
+-- Values in parts, each put before what refers to the whole, under the same comparison.
 use Rattle.std.specs.Prelude.{◌≡◌, ◌<◌, ◌≤◌, ◌⊎◌, ℕ, zero, suc, Bool, true, false, cond, ◌&&◌, List, [], ◌∷◌, ◌++◌, length, take, drop, Option, None, Some, nat_eq, nat_lt, fold}
 use Rattle.std.specs.List.{AllByRecursion}
 use Rattle.std.specs.Option.{unwrap_or}

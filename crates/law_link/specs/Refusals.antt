@@ -1,4 +1,4 @@
--- What a daemon refuses of what it is handed, by the state that it has then.
+-- What a daemon refuses.
 use Rattle.std.specs.Prelude.{◌≡◌, ◌<◌, ◌≤◌, ℕ, suc, List, [], ◌∷◌, ◌++◌, None, Some}
 use Rattle.std.specs.List.{AllByRecursion}
 use Rattle.law_quorum.specs.Batches.{Batch, behind}

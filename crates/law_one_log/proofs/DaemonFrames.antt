@@ -52,7 +52,8 @@ use Rattle.law_nodes.proofs.ReadBatches.{none_led}
 use Rattle.law_nodes.proofs.Replies.{AllTold, none_waits}
 use Rattle.law_nodes.proofs.Steady.{end_moved, node_end}
 use Rattle.law_nodes.proofs.Steps.{after_is, commit_fine, fed_is, lead_fine, loaded_is, lost_is}
-use Rattle.law_one_log.specs.Daemons.{IsNotRefused, batches_given}
+use Rattle.law_one_log.specs.Daemons.{batches_given}
+use Rattle.law_one_log.specs.OneLog.{IsNotRefused}
 use Rattle.law_one_log.specs.StoredBatches.{value_of_batch, batches_in, image_bytes, text_of_image}
 use Rattle.law_one_log.proofs.DaemonStates.{IsDaemon, apart, node_on, noted, tip_is, with_own}
 use Rattle.law_one_log.proofs.NextBatches.{as_led}
@@ -114,7 +115,7 @@ module _ (options : Options) (log : List StoredBatch) (k : ℕ) (d : Node) (n : 
   -- ---- what comes on standby
 
   module _ (none : n.state.world.leading ≡ None) where
-    own_none : d.own ≡ []
+    pub own_none : d.own ≡ []
     own_none = none_in d.own (i.node.core.standby none).1
 
     tip_end : tip_of n.state ≡ d.end
@@ -163,7 +164,7 @@ module _ (options : Options) (log : List StoredBatch) (k : ℕ) (d : Node) (n : 
       split_stored : AllStored (stands.before ++ b ∷ stands.after)
       split_stored = subst (λ (l : List StoredBatch). AllStored l) stands.split stored
 
-      its : IsStored b
+      pub its : IsStored b
       its = (all_after IsStored stands.before (b ∷ stands.after) split_stored).0
 
       items_before : length (list_items (batches_in stands.before)) ≡ d.end
@@ -186,7 +187,7 @@ module _ (options : Options) (log : List StoredBatch) (k : ℕ) (d : Node) (n : 
       abbrev f : Follows list n.state.world.log n.state.world.committed
       f = i.node.core.settles
 
-      ahead_by : (bs : List Batch) → f.ahead ≡ bs → (others : List Batch) × (f.ahead ≡ value_of_batch b ∷ others)
+      pub ahead_by : (bs : List Batch) → f.ahead ≡ bs → (others : List Batch) × (f.ahead ≡ value_of_batch b ∷ others)
       ahead_by [] is =
           let end : n.state.world.committed ≡ length (list_items list) = Logs.no_more list n.state.world.log n.state.world.committed f is in
           let long = ap (λ (l : List Batch). length (list_items l)) before_is ∙ ap (λ (l : List Item). length l) (items_append (batches_in stands.before) (value_of_batch b ∷ batches_in stands.after)) in
@@ -201,7 +202,7 @@ module _ (options : Options) (log : List StoredBatch) (k : ℕ) (d : Node) (n : 
           let same : x ≡ value_of_batch b = some_is x (value_of_batch b) (sym first ∙ (ap (λ (n : ℕ). batch_from n list) i.end ∙ found)) in
           (xs, is ∙ ap (λ (y : Batch). y ∷ xs) same)
 
-      feed_is : outcome options (at (events.Batch b.bytes)) (events.Batch b.bytes) ≡ take_batch n.state (value_of_batch b)
+      pub feed_is : outcome options (at (events.Batch b.bytes)) (events.Batch b.bytes) ≡ take_batch n.state (value_of_batch b)
       feed_is =
           ap (λ (o : Option ℤ). cond (is_some o) (Err (reasons.already_leading o)) (and_then (batch_or (batch_of b.bytes)) (take_batch n.state))) none
           ∙ ap (λ (r : Result Batch BatchFault). and_then (batch_or r) (take_batch n.state)) its.read
@@ -267,7 +268,7 @@ module _ (options : Options) (log : List StoredBatch) (k : ℕ) (d : Node) (n : 
         starts = refl;
       }
 
-      abbrev seen : Image
+      abbrev pub seen : Image
       seen = seen_at all image.offset
 
       seen_is : result_unwrap_or (apply_all empty gone) empty ≡ seen
@@ -283,7 +284,7 @@ module _ (options : Options) (log : List StoredBatch) (k : ℕ) (d : Node) (n : 
           ∙ (ap (λ (end : ℕ). image_text (pos end) (result_unwrap_or (apply_all empty gone) empty)) right.offset
           ∙ ap (λ (x : Image). image_text (pos image.offset) x) seen_is))
 
-      load_is : outcome options (at (events.Load image.bytes)) (events.Load image.bytes) ≡ take_image n.state (pos image.offset, seen)
+      pub load_is : outcome options (at (events.Load image.bytes)) (events.Load image.bytes) ≡ take_image n.state (pos image.offset, seen)
       load_is =
           ap (λ (o : Option ℤ). cond (is_some o) (Err (reasons.already_leading o)) (and_then (image_or (image_of image.bytes)) (take_image n.state))) none
           ∙ ap (λ (r : Result (ℤ × Image) ImageFault). and_then (image_or r) (take_image n.state)) (read (pos image.offset) seen bytes_are)

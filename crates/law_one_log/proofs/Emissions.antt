@@ -17,6 +17,7 @@ use Rattle.law_link.specs.Links.{Has, IsPossible, MayWrite, Stray, Write, steppe
 use Rattle.law_link.proofs.LateFrames.{IsNetwork, at_node, network_right}
 use Rattle.law_link.proofs.LinkSteps.{all_before}
 use Rattle.law_link.proofs.UnderWay.{IsUnderWay, Once, epochs_begun, epochs_led, joined_stays, tip_stays, written}
+use Rattle.law_link.proofs.Welcome.{AscentOf, ascends}
 use Rattle.law_nodes.proofs.Logs.{front_means}
 use Rattle.law_one_log.specs.StoredBatches.{image_bytes, stored}
 use Rattle.law_one_log.proofs.DaemonStates.{with_batches}
@@ -38,6 +39,7 @@ module _ (k : ℕ) where
     pub daemons : (j : ℕ) → after.daemons j ≡ cond (nat_eq k j) (with_batches (before.daemons k) bs) (before.daemons j)
     pub log : after.web.cluster.point ≡ before.web.cluster.point
     pub sense : WebHasSense after.web
+    pub ascent : (leasts : ℕ → ℕ) → ((j : ℕ) → AscentOf image_bytes leasts before j) → (j : ℕ) → AscentOf image_bytes leasts after j
 
   one_has : (n : Network) (b : StoredBatch) (t : Bool) → WebHas IsStored image_bytes n.web → IsPossible image_bytes n.web (emitted t k b) → IsStored b
       → WebHas IsStored image_bytes (stepped n.web (emitted t k b))
@@ -131,6 +133,7 @@ module _ (k : ℕ) where
         (ap (λ (own : List StoredBatch). record (n.daemons k) { own = own }) (sym (append-nil (n.daemons k).own))) (λ j. refl);
     log = refl;
     sense = g;
+    ascent = λ leasts all. all;
   }
   all_emitted n (b ∷ bs) h has g own sense w s =
       let x = stored b in
@@ -162,4 +165,5 @@ module _ (k : ℕ) where
             (λ i. refl) j;
         log = rest.log ∙ one_log n x t;
         sense = rest.sense;
+        ascent = λ leasts all. rest.ascent leasts (ascends image_bytes n h leasts all (Emit k x) w.0 tt);
       }

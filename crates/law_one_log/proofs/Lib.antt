@@ -3,6 +3,8 @@ pub mod ReadLists
 pub mod NextBatches
 pub mod DaemonStates
 pub mod DaemonFrames
+pub mod KnownEnds
+pub mod NoRefusals
 pub mod Meanings
 pub mod Emissions
 pub mod Turns

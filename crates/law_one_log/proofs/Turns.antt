@@ -1,5 +1,5 @@
 -- Each turn keeps daemons, links and store right, and what was told in the log.
-use Rattle.std.proofs.Common.{◌≡◌, ◌∙◌, sym, subst, ℕ, ℤ, pos, negsuc, Bool, cond, List, [], ◌∷◌, ◌++◌, length, map, refl, ap, arith}
+use Rattle.std.proofs.Common.{◌≡◌, ◌∙◌, sym, subst, ℕ, suc, ℤ, pos, negsuc, Bool, false, cond, List, [], ◌∷◌, ◌++◌, length, map, refl, ap, arith}
 use Rattle.std.specs.Prelude.{nat_eq, fold, Option, Result, Ok, take}
 use Rattle.std.specs.List.{AllByRecursion}
 use Rattle.std.proofs.lemmas.List.{append-nil, append_assoc, take_at}
@@ -13,7 +13,7 @@ use Rattle.kr_defs.specs.declared.record.Item.{Item}
 use Rattle.kr_defs.specs.Image.{Image, empty}
 use Rattle.kr_defs.specs.Log.{Log, apply_all, first}
 use Rattle.kr_snapshot.specs.ImageText.{image_text}
-use Rattle.kr_model.specs.World.{closed_of, seen_at, tip_of}
+use Rattle.kr_model.specs.World.{closed_of, is_far, seen_at, tip_of}
 use Rattle.law_quorum.specs.Batches.{behind}
 use Rattle.law_quorum.specs.Batches.{Batch as StoredBatch}
 use Rattle.law_quorum.specs.Changes.{Drop}
@@ -25,23 +25,28 @@ use Rattle.law_link.specs.Frames.{Act, Arrive, Commit, Feed, Frame, Lead, Load, 
 use Rattle.law_link.specs.Links.{Clear, Execute, LinkStep, Make, Renew, Stray, Write, append_of}
 use Rattle.law_link.proofs.LateFrames.{IsNetwork, at_node, first_network, network_right}
 use Rattle.law_link.proofs.LinkSteps.{all_before}
+use Rattle.law_link.specs.Refusals.{Rises, least_after, leasts_after}
 use Rattle.law_link.proofs.UnderWay.{after_frame}
+use Rattle.law_link.proofs.Welcome.{AscentOf, ascends, first_ascent, welcome}
 use Rattle.law_nodes.specs.Nodes.{NodeTold, RunNode, after_event, fresh_node, told_of}
 use Rattle.law_nodes.specs.OneList.{Follows, StandsIn, list_items}
 use Rattle.law_nodes.proofs.Invariant.{IsNode}
 use Rattle.law_nodes.proofs.Lists.{items_append, stands_on}
 use Rattle.law_nodes.proofs.Logs
 use Rattle.law_nodes.proofs.Replies.{AllTold, told_both}
-use Rattle.law_one_log.specs.OneLog.{DaemonsSayOneLog, SaysOneLog}
-use Rattle.law_one_log.specs.Daemons.{AllMayTurn, IsNoFrame, IsNotRefused, IsReadBatch, IsReadFrame, Link, MayTurn, Serve, System, Take, SystemTurn, batches_given, event_of, given_steps, images_given, log_batches, no_system, renewed, turned}
+use Rattle.law_one_log.specs.OneLog.{DaemonsSayOneLog, FramesAreTaken, IsNotRefused, SaysOneLog}
+use Rattle.law_one_log.specs.Daemons.{AllMayTurn, HasPlaces, IsNoFrame, IsReadBatch, IsReadFrame, Link, MayTurn, Serve, System, Take, SystemTurn, batches_given, event_of, given_steps, images_given, log_batches, no_system, with_new, turned}
 use Rattle.law_one_log.specs.StoredBatches.{batches_in, image_bytes, stored_image, text_of_image}
 use Rattle.law_one_log.proofs.DaemonFrames.{Takes}
 use Rattle.law_one_log.proofs.DaemonFrames as frames
 use Rattle.law_one_log.proofs.DaemonStates.{IsDaemon, Lives, daemon_on, node_on, sense_of, tip_is, with_batches}
 use Rattle.law_one_log.proofs.DaemonStates as states
 use Rattle.law_one_log.proofs.Emissions.{all_emitted, as_stored, emits}
+use Rattle.law_one_log.proofs.KnownEnds.{Knows, still_known}
 use Rattle.law_one_log.proofs.Meanings.{SenseBehind, WebHasSense, WritesSense, first_sense, itself, step_sense}
 use Rattle.law_one_log.proofs.NextBatches.{AreWritten, all_written, as_led}
+use Rattle.law_one_log.proofs.NoRefusals.{IsAccepted, accepted_knows, accepted_taken}
+use Rattle.law_one_log.proofs.NoRefusals as refusals
 use Rattle.law_one_log.proofs.ReadLists.{AllStored, IsStored, behind_items, in_append, items_in}
 use Rattle.law_one_log.proofs.Stored.{WebHas, WritesOne, first_has, step_has}
 
@@ -89,6 +94,10 @@ pub record IsSystem (y : System) : Type 0 where
   pub daemons : (k : ℕ) → IsDaemon (log_batches y) (y.network.daemons k) (y.daemons k)
   pub told : AllTold (log_batches y) y.told
   pub sense : WebHasSense y.network.web
+  -- each daemon leads from an epoch on, which those that are under way to it are not below
+  pub leasts : ℕ → ℕ
+  pub ascent : (k : ℕ) → AscentOf image_bytes leasts y.network k
+  pub knows : (k : ℕ) → Knows (y.network.daemons k) (leasts k) (y.daemons k).state.world
 
 -- what daemons are, by what law_link says of each
 abbrev pub IsDaemonAt : List StoredBatch → (ℕ → Node) → (ℕ → RunNode) → Type 0
@@ -139,18 +148,26 @@ module _ (options : Options) (y : System) (h : IsSystem y) where
         (subst (λ (l : List Batch). AllTold l (y.told ++ [])) (sym (in_append p.log r.0))
         (subst (λ (ts : List NodeTold). AllTold (list ++ batches_in r.0) ts) (sym (append-nil y.told)) (told_on list (batches_in r.0) y.told h.told)))
 
-  link_daemons : (step : LinkStep) → IsDaemonAt (network_after n (Act step)).web.cluster.point.log (network_after n (Act step)).daemons (renewed step y.daemons)
+  link_daemons : (step : LinkStep) → IsDaemonAt (network_after n (Act step)).web.cluster.point.log (network_after n (Act step)).daemons (with_new step y.daemons)
   link_daemons (Renew k) = at_node k (λ j t. IsDaemon list (cond t new_node (n.daemons j)) (cond t fresh_node (y.daemons j))) (fresh_is list) h.daemons
   link_daemons other = longer other
 
-  pub link_right : (step : LinkStep) → MayAct image_bytes n step → IsSystem (turned options y (Link step))
-  link_right step a =
+  link_knows : (step : LinkStep) (j : ℕ) → Knows ((network_after n (Act step)).daemons j) (leasts_after h.leasts (Act step) j) (with_new step y.daemons j).state.world
+  link_knows (Renew k) =
+      at_node k (λ j t. Knows (cond t new_node (n.daemons j)) (cond t 0 (h.leasts j)) (cond t fresh_node (y.daemons j)).state.world) (record { ends = tt; low = refl }) h.knows
+  link_knows other = h.knows
+
+  pub link_right : (step : LinkStep) → MayAct image_bytes n step → Rises n (Act step) → IsSystem (turned options y (Link step))
+  link_right step a rise =
       let r = network_right image_bytes n (Act step) h.network a in record {
         network = r.2;
         has = step_has IsStored image_bytes n.web h.has step r.1.0 (writes_none step a);
         daemons = link_daemons step;
         told = told_longer step;
         sense = step_sense n.web h.network.web h.has h.sense step r.1.0 (writes_nothing step a);
+        leasts = leasts_after h.leasts (Act step);
+        ascent = ascends image_bytes n h.network h.leasts h.ascent (Act step) a rise;
+        knows = link_knows step;
       }
 
   -- ---- a daemon
@@ -185,6 +202,31 @@ module _ (options : Options) (y : System) (h : IsSystem y) where
     no_image (Lost epoch) now = refl
 
     module _ (rest : List Frame) (now : ℤ) where
+      -- what comes is taken
+      accepts : (frame : Frame) → n.frames k ≡ frame ∷ rest → IsReadFrame frame → HasPlaces y
+          → IsAccepted options m (event_of frame now) (after_frame d frame) (least_after frame (h.leasts k))
+      accepts (Feed b) is read places =
+          let a = (network_right image_bytes n (Arrive k (Feed b) rest) h.network is).0.0 in
+          let w = welcome image_bytes n h.network h.leasts h.ascent (Arrive k (Feed b) rest) is in
+          refusals.feed_accepted options p.log k d m i (h.leasts k) (h.knows k) places (i.leads ∙ ap (λ (o : Option ℕ). as_led o) w.0) h.has.log h.network.web.cluster.one.meet h.sense.whole b a.1 w.1
+      accepts (Load image) is read places =
+          let a = (network_right image_bytes n (Arrive k (Load image) rest) h.network is).0.0 in
+          let w = welcome image_bytes n h.network h.leasts h.ascent (Arrive k (Load image) rest) is in
+          refusals.load_accepted options p.log k d m i (h.leasts k) (h.knows k) places (i.leads ∙ ap (λ (o : Option ℕ). as_led o) w.0) h.sense.whole image a.right h.has.log read w.1
+      accepts (Lead epoch end) is read places =
+          let w = welcome image_bytes n h.network h.leasts h.ascent (Arrive k (Lead epoch end) rest) is in
+          let f = h.network.daemons k in
+          subst (λ (x : ℕ). IsAccepted options m (events.Lead (pos epoch) (pos x) now) (told_to_lead d epoch) (suc epoch)) (i.end ∙ sym w.2)
+          (refusals.lead_accepted options p.log k d m i (h.leasts k) (h.knows k) places (i.leads ∙ ap (λ (o : Option ℕ). as_led o) w.0) epoch now w.1
+          (subst (λ (x : ℕ). is_far (pos x) ≡ false) (f.end ∙ sym i.end) (refusals.near_after options p.log k d m i (h.leasts k) (h.knows k) places (f.gone ++ d.batches) f.rest f.split)))
+      accepts (Commit epoch end) is read places =
+          let a = (network_right image_bytes n (Arrive k (Commit epoch end) rest) h.network is).0.0 in
+          let w = welcome image_bytes n h.network h.leasts h.ascent (Arrive k (Commit epoch end) rest) is in
+          refusals.commit_accepted options p.log k d m i (h.leasts k) (h.knows k) places epoch (i.leads ∙ ap (λ (o : Option ℕ). as_led o) w.0) end w.1 a.whole
+      accepts (Lost epoch) is read places =
+          let w = welcome image_bytes n h.network h.leasts h.ascent (Arrive k (Lost epoch) rest) is in
+          refusals.loss_accepted options p.log k d m i (h.leasts k) (h.knows k) places epoch (i.leads ∙ ap (λ (o : Option ℕ). as_led o) w)
+
       takes : (frame : Frame) → n.frames k ≡ frame ∷ rest → IsReadFrame frame → IsNotRefused options m (event_of frame now)
           → Takes options p.log k d m i (event_of frame now) (after_frame d frame)
       takes (Feed b) is read taken =
@@ -206,11 +248,16 @@ module _ (options : Options) (y : System) (h : IsSystem y) where
           let a = (network_right image_bytes n (Arrive k (Lost epoch) rest) h.network is).0.0 in
           frames.loses options p.log k d m i epoch a
 
-      pub take_right : (frame : Frame) → n.frames k ≡ frame ∷ rest → IsReadFrame frame → IsNotRefused options m (event_of frame now) → IsSystem (turned options y (Take k frame rest now))
-      take_right frame is read taken =
+      pub frame_taken : (frame : Frame) → n.frames k ≡ frame ∷ rest → IsReadFrame frame → HasPlaces y → IsNotRefused options m (event_of frame now)
+      frame_taken frame is read places = accepted_taken options m (event_of frame now) (after_frame d frame) (least_after frame (h.leasts k)) (accepts frame is read places)
+
+      pub take_right : (frame : Frame) → n.frames k ≡ frame ∷ rest → IsReadFrame frame → HasPlaces y → IsSystem (turned options y (Take k frame rest now))
+      take_right frame is read places =
           let event = event_of frame now in
           let r = network_right image_bytes n (Arrive k frame rest) h.network is in
-          let t = takes frame is read taken in
+          let t = takes frame is read (frame_taken frame is read places) in
+          let least = least_after frame (h.leasts k) in
+          let known : Knows (after_frame d frame) least (after_event options m event).state.world = accepted_knows options m event (after_frame d frame) least (accepts frame is read places) in
           let then = after_event options m event in
           let next = network_after n (Arrive k frame rest) in
           let none : given_steps options k m event ≡ [] =
@@ -224,6 +271,10 @@ module _ (options : Options) (y : System) (h : IsSystem y) where
             daemons = daemons;
             told = told_both list y.told (told_of options k m event) h.told t.told;
             sense = h.sense;
+            leasts = set_at k least h.leasts;
+            ascent = ascends image_bytes n h.network h.leasts h.ascent (Arrive k frame rest) is tt;
+            knows = subst (λ (nodes : ℕ → Node). (j : ℕ) → Knows (nodes j) (set_at k least h.leasts j) (set_at k then y.daemons j).state.world) (sym (took frame))
+                (at_node k (λ j q. Knows (cond q (after_frame d frame) (n.daemons j)) (cond q least (h.leasts j)) (cond q then (y.daemons j)).state.world) known h.knows);
           } in
           subst (λ (steps : List NetworkStep). IsSystem (with_daemon then (told_of options k m event) (fold network_after next steps))) (sym none) there
 
@@ -236,9 +287,14 @@ module _ (options : Options) (y : System) (h : IsSystem y) where
       abbrev then : RunNode
       then = after_event options m event
 
-      serve_right : Lives options list k d m i event → AreWritten d (as_stored k given) → AllStored (as_stored k given) → images_given k m.state event ≡ []
+      served_knows : IsNoFrame event → (j : ℕ) → Knows (cond (nat_eq k j) (with_batches d (as_stored k given)) (n.daemons j)) (h.leasts j) (set_at k then y.daemons j).state.world
+      served_knows own =
+          at_node k (λ j q. Knows (cond q (with_batches d (as_stored k given)) (n.daemons j)) (h.leasts j) (cond q then (y.daemons j)).state.world)
+          (still_known options d (h.leasts k) m (sym (tip_is list d m i)) (h.knows k) event own) h.knows
+
+      serve_right : IsNoFrame event → Lives options list k d m i event → AreWritten d (as_stored k given) → AllStored (as_stored k given) → images_given k m.state event ≡ []
           → IsSystem (turned options y (Serve k event))
-      serve_right l written kept none =
+      serve_right own l written kept none =
           let sense : SenseBehind p.log d.end (d.own ++ as_stored k given) = sense_of list (with_batches d (as_stored k given)) then l.daemon in
           let e = all_emitted k n given h.network h.has h.sense i.own sense written kept in
           let next = fold network_after n (emits k given) in
@@ -252,6 +308,9 @@ module _ (options : Options) (y : System) (h : IsSystem y) where
             daemons = subst (λ (q : Point). IsDaemonAt q.log next.daemons (set_at k then y.daemons)) (sym e.log) daemons;
             told = subst (λ (q : Point). AllTold (batches_in q.log) (y.told ++ told_of options k m event)) (sym e.log) (told_both list y.told (told_of options k m event) h.told l.told);
             sense = e.sense;
+            leasts = h.leasts;
+            ascent = e.ascent h.leasts h.ascent;
+            knows = λ j. subst (λ (x : Node). Knows x (h.leasts j) (set_at k then y.daemons j).state.world) (sym (e.daemons j)) (served_knows own j);
           } in
           subst (λ (s : List NetworkStep). IsSystem (with_daemon then (told_of options k m event) (fold network_after n s))) (sym steps) there
 
@@ -262,13 +321,13 @@ module _ (options : Options) (y : System) (h : IsSystem y) where
     asked client now ask reads =
         let event = events.Request client now ask in
         let w = all_written d.leads (tip_of m.state) d (batches_given options m event) refl tip (states.request_given options list k d m i client now ask) reads in
-        serve_right event (states.serves options list k d m i event (states.request_is options list k d m i client now ask) tt w.1 reads) w.0 w.1 refl
+        serve_right event tt (states.serves options list k d m i event (states.request_is options list k d m i client now ask) tt w.1 reads) w.0 w.1 refl
 
     ticked : (now : ℤ) → AllByRecursion IsReadBatch (batches_given options m (events.Tick now)) → IsSystem (turned options y (Serve k (events.Tick now)))
     ticked now reads =
         let event = events.Tick now in
         let w = all_written d.leads (tip_of m.state) d (batches_given options m event) refl tip (states.tick_given options list k d m i now) reads in
-        serve_right event (states.serves options list k d m i event (states.tick_is options list k d m i now) tt w.1 reads) w.0 w.1 refl
+        serve_right event tt (states.serves options list k d m i event (states.tick_is options list k d m i now) tt w.1 reads) w.0 w.1 refl
 
     -- ---- an image of what it has
 
@@ -327,6 +386,11 @@ module _ (options : Options) (y : System) (h : IsSystem y) where
           daemons = at_node k (λ j q. IsDaemon list (n.daemons j) (cond q then (y.daemons j))) own h.daemons;
           told = told_both list y.told (told_of options k m events.Image) h.told l.told;
           sense = h.sense;
+          leasts = h.leasts;
+          ascent = h.ascent;
+          knows = at_node k (λ j q. Knows (n.daemons j) (h.leasts j) (cond q then (y.daemons j)).state.world)
+              (subst (λ (bs : List StoredBatch). Knows (record d { own = bs }) (h.leasts k) then.state.world) (append-nil d.own)
+              (still_known options d (h.leasts k) m (sym (tip_is list d m i)) (h.knows k) events.Image tt)) h.knows;
         }
 
     pub serves_right : (event : Event) → IsNoFrame event → AllByRecursion IsReadBatch (batches_given options m event) → IsSystem (turned options y (Serve k event))
@@ -342,8 +406,8 @@ module _ (options : Options) (y : System) (h : IsSystem y) where
 -- ---- all turns
 
 turn_right : (options : Options) (y : System) (turn : SystemTurn) → IsSystem y → MayTurn options y turn → IsSystem (turned options y turn)
-turn_right options y (Link step) h a = link_right options y h step a
-turn_right options y (Take k frame rest now) h (is, read, taken, reads) = take_right options y h k rest now frame is read taken
+turn_right options y (Link step) h (a, rise) = link_right options y h step a rise
+turn_right options y (Take k frame rest now) h (is, read, places) = take_right options y h k rest now frame is read places
 turn_right options y (Serve k event) h (own, reads) = serves_right options y h k event own reads
 
 turns_right : (options : Options) (y : System) (turns : List SystemTurn) → IsSystem y → AllMayTurn options y turns → IsSystem (fold (turned options) y turns)
@@ -351,7 +415,7 @@ turns_right options y [] h a = h
 turns_right options y (turn ∷ turns) h (here, a) = turns_right options (turned options y turn) turns (turn_right options y turn h here) a
 
 first_system : IsSystem no_system
-first_system = record { network = first_network image_bytes; has = first_has IsStored image_bytes; daemons = λ k. fresh_is []; told = tt; sense = first_sense }
+first_system = record { network = first_network image_bytes; has = first_has IsStored image_bytes; daemons = λ k. fresh_is []; told = tt; sense = first_sense; leasts = λ k. 0; ascent = first_ascent image_bytes; knows = λ k. record { ends = tt; low = refl } }
 
 says_one_log : (y : System) → IsSystem y → SaysOneLog y
 says_one_log y h = record {
@@ -365,3 +429,8 @@ says_one_log y h = record {
 
 pub daemons_say_one_log : DaemonsSayOneLog
 daemons_say_one_log options turns a = says_one_log (fold (turned options) no_system turns) (turns_right options no_system turns first_system a)
+
+pub frames_are_taken : FramesAreTaken
+frames_are_taken options turns k frame rest now a (is, read, places) =
+    let y = fold (turned options) no_system turns in
+    frame_taken options y (turns_right options no_system turns first_system a) k rest now frame is read places

@@ -1,5 +1,5 @@
--- Daemons over links and their store: each is a controller, whose events are the frames that its link hands to it, and those of its own.
-use Rattle.std.specs.Prelude.{◌≡◌, ℕ, ℤ, pos, List, [], ◌∷◌, ◌++◌, map, fold, Result, Ok, Err, IsOk}
+-- Daemons over links: controllers, whose events are the frames that come, and those of their own.
+use Rattle.std.specs.Prelude.{◌≡◌, ℕ, ℤ, pos, List, [], ◌∷◌, ◌++◌, map, false, fold, Result, Ok, Err}
 use Rattle.std.specs.List.{AllByRecursion}
 use Rattle.kr_batch.specs.declared.Batch.{Batch}
 use Rattle.kr_batch.specs.BatchBytes.{batch_bytes}
@@ -13,11 +13,13 @@ use Rattle.kr_snapshot.specs.ImageText.{image_text}
 use Rattle.kr_snapshot.specs.Reading.{image_of}
 use Rattle.kr_model.specs.Events.{at_time_of, outcome}
 use Rattle.kr_model.specs.Outputs.{if_accepted}
-use Rattle.kr_model.specs.World.{State}
+use Rattle.kr_model.specs.World.{State, is_far}
+use Rattle.law_quorum.specs.Batches.{behind}
 use Rattle.law_nodes.specs.Nodes.{NodeTold, RunNode, after_event, batches_of, fresh_node, told_of}
 use Rattle.law_nodes.specs.OneList.{list_items}
 use Rattle.law_link.specs.Frames.{Act, Arrive, Commit, Emit, Feed, Frame, Lead, Load, Lost, MayAct, Network, NetworkStep, Snapshot, network_after, no_network, set_at}
 use Rattle.law_link.specs.Links.{LinkStep, Renew}
+use Rattle.law_link.specs.Refusals.{Rises}
 use Rattle.law_one_log.specs.StoredBatches.{batches_in, image_bytes, stored, stored_image}
 
 pub record System : Type 0 where
@@ -71,12 +73,12 @@ network_steps options y (Serve k event) = given_steps options k (y.daemons k) ev
 -- ---- a turn
 
 -- where a new daemon takes the place of the old one it begins from nothing
-abbrev pub renewed : LinkStep → (ℕ → RunNode) → ℕ → RunNode
-renewed (Renew k) daemons = set_at k fresh_node daemons
-renewed other daemons = daemons
+abbrev pub with_new : LinkStep → (ℕ → RunNode) → ℕ → RunNode
+with_new (Renew k) daemons = set_at k fresh_node daemons
+with_new other daemons = daemons
 
 abbrev pub daemons_after : Options → System → SystemTurn → ℕ → RunNode
-daemons_after options y (Link step) = renewed step y.daemons
+daemons_after options y (Link step) = with_new step y.daemons
 daemons_after options y (Take k frame rest now) = set_at k (after_event options (y.daemons k) (event_of frame now)) y.daemons
 daemons_after options y (Serve k event) = set_at k (after_event options (y.daemons k) event) y.daemons
 
@@ -109,14 +111,13 @@ abbrev pub IsReadFrame : Frame → Type 0
 IsReadFrame (Load image) = (offset : ℤ) (seen : Image) → image.bytes ≡ image_text offset seen → image_of image.bytes ≡ Ok (offset, seen)
 IsReadFrame other = Unit {0}
 
--- a daemon refuses no frame
-abbrev pub IsNotRefused : Options → RunNode → Event → Type 0
-IsNotRefused options n event = IsOk (outcome options (at_time_of n.state event) event)
+-- places are left: the log ends no higher than a leader may begin a batch
+abbrev pub HasPlaces : System → Type 0
+HasPlaces y = is_far (pos (behind 0 y.network.web.cluster.point.log)) ≡ false
 
 abbrev pub MayTurn : Options → System → SystemTurn → Type 0
-MayTurn options y (Link step) = MayAct image_bytes y.network step
-MayTurn options y (Take k frame rest now) = (y.network.frames k ≡ frame ∷ rest) × IsReadFrame frame × IsNotRefused options (y.daemons k) (event_of frame now)
-    × AllByRecursion IsReadBatch (batches_given options (y.daemons k) (event_of frame now))
+MayTurn options y (Link step) = MayAct image_bytes y.network step × Rises y.network (Act step)
+MayTurn options y (Take k frame rest now) = (y.network.frames k ≡ frame ∷ rest) × IsReadFrame frame × HasPlaces y
 MayTurn options y (Serve k event) = IsNoFrame event × AllByRecursion IsReadBatch (batches_given options (y.daemons k) event)
 
 abbrev pub AllMayTurn : Options → System → List SystemTurn → Type 0

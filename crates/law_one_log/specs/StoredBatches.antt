@@ -1,4 +1,4 @@
--- What the store has of a controller's batches and images: their bytes, and what a link reads of them.
+-- What the store has of batches and images: bytes, and what links read of them.
 use Rattle.std.specs.Prelude.{ℕ, pos, unsigned_abs, List, [], length, map, Result, Ok, Err}
 use Rattle.std.specs.Result.{result_unwrap_or}
 use Rattle.kr_batch.specs.declared.Batch.{Batch}
