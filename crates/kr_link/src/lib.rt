@@ -12,12 +12,12 @@ mod pings;
 mod roles;
 mod waiting;
 
-pub use actions::{Action, Frame, Guard, Outbox};
-pub use batch::{Batch, BatchFault, StoredImage};
+pub use actions::{Action, DaemonFrame, Guard, Outbox};
+pub use batch::{LogBatch, LogBatchFault, StoredImage};
 pub use campaigns::{Campaign, Campaigns};
 pub use imaging::{ImageAnswer, Imaging};
 pub use leases::Lease;
 pub use link_core::LinkCore;
 pub use pings::{BEAT, EACH_BATCH, MOST_UNPINGED, Ping, Pings};
-pub use roles::{Held, Leading, Role};
-pub use waiting::Waiting;
+pub use roles::{Held, Leading, LinkRole};
+pub use waiting::WaitingBatches;

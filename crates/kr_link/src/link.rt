@@ -1,19 +1,19 @@
 //! A link by its clock: when it asks and renews, pings and feeds, and what of what comes its core is told.
 
 ghost use Rattle.std.specs.Prelude.{◌≡◌, ◌<◌, ◌*◌, ◌+◌, ◌^◌, OnOk, [], None};
-ghost use Rattle.kr_link.specs.Driven as driven;
-ghost use Rattle.kr_link.specs.Driven.{driven_of};
+ghost use Rattle.kr_link.specs.TimedLinks as timed;
+ghost use Rattle.kr_link.specs.TimedLinks.{timed_of};
 
 use crate::{
-    Action, BEAT, Batch, Campaigns, Frame, Held, ImageAnswer, Imaging, Lease, LinkCore, Outbox,
-    Ping, Pings, StoredImage,
+    Action, BEAT, Campaigns, DaemonFrame, Held, ImageAnswer, Imaging, Lease, LinkCore, LogBatch,
+    Outbox, Ping, Pings, StoredImage,
 };
 use kr_base::NoMemory;
 use std::alloc::Global;
 
 /// What a link is started with.
 #[derive(Clone, Copy, Debug, Drop, PartialEq, Eq)]
-pub struct Settings {
+pub struct LinkSettings {
     /// The term of its leases in milliseconds.
     pub term: u64,
     /// An image is asked for each time the log has grown by so many places; 0: never.
@@ -22,8 +22,8 @@ pub struct Settings {
 
 /// What is seen of the log.
 #[derive(Clone, Copy, Debug, Drop, PartialEq, Eq)]
-pub struct Seen {
-    /// Its end.
+pub struct SeenLog {
+    /// The place at which it ends.
     pub end: u64,
     /// Somebody leads.
     pub is_led: bool,
@@ -33,7 +33,7 @@ pub struct Seen {
 
 /// What was asked of the store and has no answer yet; campaigns, appends, renewals and images are beside it.
 #[derive(Clone, Copy, Debug, Drop, PartialEq, Eq)]
-pub enum Question {
+pub enum StoreQuestion {
     /// Nothing.
     Nothing,
     /// What is seen of the log.
@@ -44,30 +44,30 @@ pub enum Question {
     Image,
 }
 
-impl Question {
+impl StoreQuestion {
     fn is_nothing(self) -> bool
-        ensures { result ≡ driven.is_idle self }
+        ensures { result ≡ timed.is_idle self }
     {
         match self {
-            Question::Nothing => true,
+            StoreQuestion::Nothing => true,
             _ => false,
         }
     }
 
     fn is_look(self) -> bool
-        ensures { result ≡ driven.is_look self }
+        ensures { result ≡ timed.is_look self }
     {
         match self {
-            Question::Look => true,
+            StoreQuestion::Look => true,
             _ => false,
         }
     }
 
     fn is_batches(self) -> bool
-        ensures { result ≡ driven.is_batches self }
+        ensures { result ≡ timed.is_batches self }
     {
         match self {
-            Question::Batches => true,
+            StoreQuestion::Batches => true,
             _ => false,
         }
     }
@@ -78,14 +78,14 @@ impl Question {
 #[derive(Drop)]
 pub struct Link {
     alloc: Global,
-    settings: Settings,
+    settings: LinkSettings,
     core: LinkCore,
     out: Outbox,
     pings: Option<Pings>,
-    question: Question,
+    question: StoreQuestion,
     campaigns: Campaigns,
     lease: Option<Lease>,
-    seen: Seen,
+    seen: SeenLog,
     imaging: Imaging,
     is_unanswered: bool,
     beat: u64,
@@ -93,8 +93,8 @@ pub struct Link {
 
 impl Link {
     /// A link of which no daemon wants anything yet.
-    pub fn new(alloc: Global, settings: Settings) -> Link
-        ensures { driven_of result ≡ driven.first_link settings }
+    pub fn new(alloc: Global, settings: LinkSettings) -> Link
+        ensures { timed_of result ≡ timed.first_link settings }
     {
         Link {
             alloc,
@@ -102,10 +102,10 @@ impl Link {
             core: LinkCore::new(alloc),
             out: Outbox::new(alloc),
             pings: None,
-            question: Question::Nothing,
+            question: StoreQuestion::Nothing,
             campaigns: Campaigns::new(),
             lease: None,
-            seen: Seen {
+            seen: SeenLog {
                 end: 0,
                 is_led: false,
                 image: 0,
@@ -118,14 +118,14 @@ impl Link {
 
     /// What is to be done next.
     pub fn take(&mut self) -> Option<Action>
-        ensures { driven_of self.old ≡ driven.with_first result (driven_of self.new) }
+        ensures { timed_of self.old ≡ timed.with_taken result (timed_of self.new) }
     {
         self.out.take()
     }
 
     // The leadership is over, or may be.
     fn end(&mut self) -> Result<(), NoMemory>
-        ensures { OnOk result (driven_of self.new ≡ driven.is_over (driven_of self.old)) }
+        ensures { OnOk result (timed_of self.new ≡ timed.gives_up (timed_of self.old)) }
     {
         self.core.end(&mut self.out)?;
         self.lease = None;
@@ -135,7 +135,7 @@ impl Link {
 
     // The daemon's connection is closed.
     fn let_go(&mut self) -> Result<(), NoMemory>
-        ensures { OnOk result (driven_of self.new ≡ driven.let_go (driven_of self.old)) }
+        ensures { OnOk result (timed_of self.new ≡ timed.let_go (timed_of self.old)) }
     {
         self.end()?;
         self.out.put(Action::Close)?;
@@ -145,25 +145,25 @@ impl Link {
 
     // It looks at the log, unless it asks something already.
     fn look(&mut self) -> Result<(), NoMemory>
-        ensures { OnOk result (driven_of self.new ≡ driven.looks (driven_of self.old)) }
+        ensures { OnOk result (timed_of self.new ≡ timed.looks (timed_of self.old)) }
     {
         if !self.question.is_nothing() {
             return Ok(());
         }
         self.out.put(Action::Look)?;
-        self.question = Question::Look;
+        self.question = StoreQuestion::Look;
         Ok(())
     }
 
     // Pings the daemon.
-    fn ping(&mut self, now: u64) -> Result<(), NoMemory>
-        ensures { OnOk result (driven_of self.new ≡ driven.pinged (driven_of self.old) now) }
+    fn send_ping(&mut self, now: u64) -> Result<(), NoMemory>
+        ensures { OnOk result (timed_of self.new ≡ timed.pinged (timed_of self.old) now) }
     {
         let led = self.core.role().epoch_led();
         match &mut self.pings {
             None => Ok(()),
             Some(pings) => {
-                self.out.put(Action::Send(Frame::Ping))?;
+                self.out.put(Action::Send(DaemonFrame::Ping))?;
                 pings.send(Ping {
                     event: self.out.events(),
                     at: now,
@@ -176,7 +176,7 @@ impl Link {
 
     /// A daemon connected; the one before it isn't served any more.
     pub fn join(&mut self, now: u64) -> Result<(), NoMemory>
-        ensures { OnOk result (driven_of self.new ≡ driven.joined (driven_of self.old) now) }
+        ensures { OnOk result (timed_of self.new ≡ timed.on_join (timed_of self.old) now) }
     {
         self.core.join(&mut self.out)?;
         self.out.begin();
@@ -184,12 +184,12 @@ impl Link {
         self.lease = None;
         self.is_unanswered = false;
         self.imaging = Imaging::new();
-        self.ping(now)
+        self.send_ping(now)
     }
 
     /// The daemon's connection ended.
     pub fn part(&mut self) -> Result<(), NoMemory>
-        ensures { OnOk result (driven_of self.new ≡ driven.gone (driven_of self.old)) }
+        ensures { OnOk result (timed_of self.new ≡ timed.on_part (timed_of self.old)) }
     {
         self.end()?;
         self.pings = None;
@@ -197,8 +197,8 @@ impl Link {
     }
 
     /// The daemon wrote a batch. One whose batches don't meet is let go.
-    pub fn write(&mut self, batch: Batch) -> Result<(), NoMemory>
-        ensures { OnOk result (driven_of self.new ≡ driven.wrote (driven_of self.old) batch) }
+    pub fn write(&mut self, batch: LogBatch) -> Result<(), NoMemory>
+        ensures { OnOk result (timed_of self.new ≡ timed.on_write (timed_of self.old) batch) }
     {
         if self.core.is_misplaced(&batch) {
             return self.let_go();
@@ -208,7 +208,8 @@ impl Link {
 
     /// The daemon refused an event because it didn't lead as that says; it leads `led`. Where that answers no ping, it is let go.
     pub fn refuse(&mut self, event: u64, led: Option<u32>, now: u64) -> Result<(), NoMemory>
-        ensures { OnOk result (driven_of self.new ≡ driven.refused (driven_of self.old) event led now) }
+        ensures { OnOk result (timed_of self.new
+            ≡ timed.on_refuse (timed_of self.old) event led now) }
     {
         let Some(pings) = &mut self.pings else {
             return Ok(());
@@ -221,12 +222,12 @@ impl Link {
 
     /// A campaign took effect. It is told its core once; a leadership that no call awaits is given back.
     pub fn win(&mut self, token: u64, held: Held) -> Result<(), NoMemory>
-        ensures { OnOk result (driven_of self.new ≡ driven.won (driven_of self.old) token held) }
+        ensures { OnOk result (timed_of self.new ≡ timed.on_win (timed_of self.old) token held) }
     {
         let Some(campaign) = self.campaigns.settle(token) else {
             return self.out.put(Action::Resign { made: held.made });
         };
-        if self.core.role().is_held() {
+        if self.core.role().has_leadership() {
             return self.out.put(Action::Resign { made: held.made });
         }
         self.core.win(held, &mut self.out)?;
@@ -236,16 +237,16 @@ impl Link {
 
     /// A campaign took no effect, or stays without an answer.
     pub fn lose(&mut self, token: u64)
-        ensures { driven_of self.new ≡ driven.not_won (driven_of self.old) token }
+        ensures { timed_of self.new ≡ timed.on_lose (timed_of self.old) token }
     {
         let _ = self.campaigns.settle(token);
     }
 
     /// The append for the leadership whose key was made at a revision, from a place on, stands.
     pub fn stand(&mut self, made: u64, base: u64) -> Result<(), NoMemory>
-        ensures { OnOk result (driven_of self.new ≡ driven.stood (driven_of self.old) made base) }
+        ensures { OnOk result (timed_of self.new ≡ timed.on_stand (timed_of self.old) made base) }
     {
-        if !self.core.role().is_of(made, base) {
+        if !self.core.role().awaits_append(made, base) {
             return Ok(());
         }
         self.core.stand(made, base, &mut self.out)?;
@@ -255,9 +256,10 @@ impl Link {
 
     /// That append doesn't stand, and never will, or whether it does will never be known.
     pub fn fail(&mut self, made: u64, base: u64) -> Result<(), NoMemory>
-        ensures { OnOk result (driven_of self.new ≡ driven.append_refused (driven_of self.old) made base) }
+        ensures { OnOk result (timed_of self.new
+            ≡ timed.on_fail (timed_of self.old) made base) }
     {
-        if !self.core.role().is_of(made, base) {
+        if !self.core.role().awaits_append(made, base) {
             return Ok(());
         }
         self.end()
@@ -265,16 +267,16 @@ impl Link {
 
     /// That append has no answer yet: it is called for again when it is later.
     pub fn miss(&mut self, made: u64, base: u64)
-        ensures { driven_of self.new ≡ driven.append_unanswered (driven_of self.old) made base }
+        ensures { timed_of self.new ≡ timed.on_miss (timed_of self.old) made base }
     {
-        if self.core.role().is_of(made, base) {
+        if self.core.role().awaits_append(made, base) {
             self.is_unanswered = true;
         }
     }
 
     // Campaigns, where a token is left.
     fn campaign(&mut self, now: u64) -> Result<(), NoMemory>
-        ensures { OnOk result (driven_of self.new ≡ driven.campaigning (driven_of self.old) now) }
+        ensures { OnOk result (timed_of self.new ≡ timed.campaigning (timed_of self.old) now) }
     {
         match self.campaigns.begin(now) {
             None => Ok(()),
@@ -286,9 +288,9 @@ impl Link {
 
     // Nobody leads, no campaign is under way, and the daemon answers.
     fn may_campaign(&self, now: u64) -> bool
-        ensures { result ≡ driven.may_campaign (driven_of self.now) now }
+        ensures { result ≡ timed.may_campaign (timed_of self.now) now }
     {
-        !self.core.role().is_held()
+        !self.core.role().has_leadership()
             && !self.seen.is_led
             && self.campaigns.under_way.is_none()
             && self.is_fresh(now)
@@ -296,18 +298,18 @@ impl Link {
 
     // Reads on what the daemon wasn't fed; at the end of the log it campaigns.
     fn follow(&mut self, now: u64) -> Result<(), NoMemory>
-        ensures { OnOk result (driven_of self.new ≡ driven.follows (driven_of self.old) now) }
+        ensures { OnOk result (timed_of self.new ≡ timed.follows (timed_of self.old) now) }
     {
-        if self.core.role().is_leading() || self.is_ahead() {
+        if self.core.role().is_leading() || self.is_far_ahead() {
             return Ok(());
         }
-        let fed = self.core.fed();
+        let fed = self.core.fed_end();
         if fed < self.seen.image {
-            self.question = Question::Image;
+            self.question = StoreQuestion::Image;
             return self.out.put(Action::ReadImage);
         }
         if fed < self.seen.end {
-            self.question = Question::Batches;
+            self.question = StoreQuestion::Batches;
             return self.out.put(Action::Read {
                 from: fed,
                 to: self.seen.end,
@@ -321,9 +323,9 @@ impl Link {
 
     // Asks the daemon for an image, where it is far enough past the last one.
     fn consider(&mut self) -> Result<(), NoMemory>
-        ensures { OnOk result (driven_of self.new ≡ driven.considers (driven_of self.old)) }
+        ensures { OnOk result (timed_of self.new ≡ timed.considers (timed_of self.old)) }
     {
-        let fed = self.core.fed();
+        let fed = self.core.fed_end();
         if self.pings.is_none() || !self.imaging.is_wanted(fed, self.seen.image, self.places()) {
             return Ok(());
         }
@@ -332,13 +334,13 @@ impl Link {
     }
 
     /// This was seen of the log.
-    pub fn see(&mut self, seen: Seen, now: u64) -> Result<(), NoMemory>
-        ensures { OnOk result (driven_of self.new ≡ driven.looked (driven_of self.old) seen now) }
+    pub fn see(&mut self, seen: SeenLog, now: u64) -> Result<(), NoMemory>
+        ensures { OnOk result (timed_of self.new ≡ timed.on_see (timed_of self.old) seen now) }
     {
         if !self.question.is_look() {
             return Ok(());
         }
-        self.question = Question::Nothing;
+        self.question = StoreQuestion::Nothing;
         self.seen = seen;
         self.consider()?;
         self.follow(now)
@@ -346,23 +348,23 @@ impl Link {
 
     // So many bytes were fed: where another ping is due, it is sent.
     fn count(&mut self, bytes: u64, now: u64) -> Result<(), NoMemory>
-        ensures { OnOk result (driven_of self.new ≡ driven.counts (driven_of self.old) bytes now) }
+        ensures { OnOk result (timed_of self.new ≡ timed.counts (timed_of self.old) bytes now) }
     {
         let is_due = match &mut self.pings {
             None => false,
             Some(pings) => pings.feed(bytes),
         };
         if is_due {
-            return self.ping(now);
+            return self.send_ping(now);
         }
         Ok(())
     }
 
     /// A batch was read. None is fed to a daemon that doesn't answer.
-    pub fn find(&mut self, batch: Batch, now: u64) -> Result<(), NoMemory>
-        ensures { OnOk result (driven_of self.new ≡ driven.found (driven_of self.old) batch now) }
+    pub fn find(&mut self, batch: LogBatch, now: u64) -> Result<(), NoMemory>
+        ensures { OnOk result (timed_of self.new ≡ timed.on_find (timed_of self.old) batch now) }
     {
-        if !self.question.is_batches() || self.is_ahead() {
+        if !self.question.is_batches() || self.is_far_ahead() {
             return Ok(());
         }
         let bytes = batch.size();
@@ -372,9 +374,10 @@ impl Link {
 
     /// The image was read.
     pub fn find_image(&mut self, image: StoredImage, now: u64) -> Result<(), NoMemory>
-        ensures { OnOk result (driven_of self.new ≡ driven.found_image (driven_of self.old) image now) }
+        ensures { OnOk result (timed_of self.new
+            ≡ timed.on_find_image (timed_of self.old) image now) }
     {
-        if self.is_ahead() {
+        if self.is_far_ahead() {
             return Ok(());
         }
         let bytes = image.size();
@@ -384,10 +387,11 @@ impl Link {
 
     /// What was asked has no further answer; it is known, or isn't, why none.
     pub fn finish(&mut self, is_known: bool) -> Result<(), NoMemory>
-        ensures { OnOk result (driven_of self.new ≡ driven.answered_all (driven_of self.old) is_known) }
+        ensures { OnOk result (timed_of self.new
+            ≡ timed.on_finish (timed_of self.old) is_known) }
     {
-        self.question = Question::Nothing;
-        if is_known && !self.is_ahead() {
+        self.question = StoreQuestion::Nothing;
+        if is_known && !self.is_far_ahead() {
             return self.look();
         }
         Ok(())
@@ -395,7 +399,7 @@ impl Link {
 
     /// It is later.
     pub fn wake(&mut self, now: u64) -> Result<(), NoMemory>
-        ensures { OnOk result (driven_of self.new ≡ driven.woke (driven_of self.old) now) }
+        ensures { OnOk result (timed_of self.new ≡ timed.on_wake (timed_of self.old) now) }
     {
         self.end_when_due(now)?;
         self.call_again()?;
@@ -408,17 +412,17 @@ impl Link {
     }
 
     // The daemon is behind with its answers, or there is none.
-    fn is_ahead(&self) -> bool
-        ensures { result ≡ driven.is_ahead_of self.now.pings }
+    fn is_far_ahead(&self) -> bool
+        ensures { result ≡ timed.is_ahead_of self.now.pings }
     {
         match &self.pings {
             None => true,
-            Some(pings) => pings.is_ahead(),
+            Some(pings) => pings.is_far_ahead(),
         }
     }
 
     fn is_fresh(&self, now: u64) -> bool
-        ensures { result ≡ driven.is_fresh_of self.now.pings now }
+        ensures { result ≡ timed.is_fresh_of self.now.pings now }
     {
         match &self.pings {
             None => false,
@@ -427,7 +431,7 @@ impl Link {
     }
 
     fn silence(&self, now: u64) -> u64
-        ensures { result ≡ driven.silence_of self.now.pings now }
+        ensures { result ≡ timed.silence_of self.now.pings now }
     {
         match &self.pings {
             None => 0,
@@ -437,7 +441,7 @@ impl Link {
 
     // Who leads asks for an image only where nobody else gave one.
     fn places(&self) -> u64
-        ensures { result ≡ driven.places_of (driven_of self.now) }
+        ensures { result ≡ timed.places_of (timed_of self.now) }
     {
         if self.core.role().is_leading() {
             return self.settings.images.saturating_mul(2);
@@ -447,14 +451,14 @@ impl Link {
 
     // The lease may have run out, or the daemon that leads doesn't answer for as long as one.
     fn is_due_to_end(&self, now: u64) -> bool
-        ensures { result ≡ driven.is_due_to_end (driven_of self.now) now }
+        ensures { result ≡ timed.is_due_to_end (timed_of self.now) now }
     {
         self.is_lapsed(now)
             || self.core.role().is_leading() && self.silence(now) > self.settings.term
     }
 
     fn is_lapsed(&self, now: u64) -> bool
-        ensures { result ≡ driven.is_lapsed_of self.now.lease now }
+        ensures { result ≡ timed.is_lapsed_of self.now.lease now }
     {
         match &self.lease {
             None => false,
@@ -463,7 +467,7 @@ impl Link {
     }
 
     fn end_when_due(&mut self, now: u64) -> Result<(), NoMemory>
-        ensures { OnOk result (driven_of self.new ≡ driven.ended (driven_of self.old) now) }
+        ensures { OnOk result (timed_of self.new ≡ timed.ends_when_due (timed_of self.old) now) }
     {
         if !self.is_due_to_end(now) {
             return Ok(());
@@ -473,7 +477,7 @@ impl Link {
 
     // Calls again for an append that has no answer: it does no harm.
     fn call_again(&mut self) -> Result<(), NoMemory>
-        ensures { OnOk result (driven_of self.new ≡ driven.calls_again (driven_of self.old)) }
+        ensures { OnOk result (timed_of self.new ≡ timed.calls_again (timed_of self.old)) }
     {
         if !self.is_unanswered {
             return Ok(());
@@ -484,7 +488,7 @@ impl Link {
 
     // Asks for the lease to be renewed, a quarter of its term after the last time.
     fn renew(&mut self, now: u64) -> Result<(), NoMemory>
-        ensures { OnOk result (driven_of self.new ≡ driven.renews (driven_of self.old) now) }
+        ensures { OnOk result (timed_of self.new ≡ timed.renews (timed_of self.old) now) }
     {
         let Some(held) = self.core.role().held() else {
             return Ok(());
@@ -501,35 +505,35 @@ impl Link {
     }
 
     fn is_beat(&self, now: u64) -> bool
-        ensures { result ≡ driven.is_beat (driven_of self.now) now }
+        ensures { result ≡ timed.is_beat (timed_of self.now) now }
     {
         self.pings.is_some() && self.beat <= now
     }
 
     fn tick(&mut self) -> Result<(), NoMemory>
-        ensures { OnOk result (driven_of self.new ≡ driven.ticks (driven_of self.old)) }
+        ensures { OnOk result (timed_of self.new ≡ timed.ticks (timed_of self.old)) }
     {
         if !self.core.role().is_leading() {
             return Ok(());
         }
-        self.out.put(Action::Send(Frame::Tick))
+        self.out.put(Action::Send(DaemonFrame::Tick))
     }
 
     // A daemon that doesn't answer for four terms is let go; else who leads is told the time, each is pinged, and the log looked at.
     fn beat(&mut self, now: u64) -> Result<(), NoMemory>
-        ensures { OnOk result (driven_of self.new ≡ driven.beats (driven_of self.old) now) }
+        ensures { OnOk result (timed_of self.new ≡ timed.beats (timed_of self.old) now) }
     {
         if self.silence(now) > self.settings.term.saturating_mul(4) {
             return self.let_go();
         }
         self.tick()?;
-        self.ping(now)?;
+        self.send_ping(now)?;
         self.look()
     }
 
     /// The renewal under way of the lease of this leadership was granted, or stays without an answer.
-    pub fn renewed(&mut self, made: u64, is_granted: bool)
-        ensures { driven_of self.new ≡ driven.renewed (driven_of self.old) made is_granted }
+    pub fn answer_renewal(&mut self, made: u64, is_granted: bool)
+        ensures { timed_of self.new ≡ timed.on_renewal (timed_of self.old) made is_granted }
     {
         if !self.core.role().is_made_at(made) {
             return;
@@ -541,7 +545,7 @@ impl Link {
 
     /// The lease of this leadership isn't there any more.
     pub fn lapse(&mut self, made: u64) -> Result<(), NoMemory>
-        ensures { OnOk result (driven_of self.new ≡ driven.lapsed (driven_of self.old) made) }
+        ensures { OnOk result (timed_of self.new ≡ timed.on_lapse (timed_of self.old) made) }
     {
         if !self.core.role().is_made_at(made) {
             return Ok(());
@@ -551,7 +555,7 @@ impl Link {
 
     /// The daemon gave an image.
     pub fn give(&mut self, image: StoredImage) -> Result<(), NoMemory>
-        ensures { OnOk result (driven_of self.new ≡ driven.gave (driven_of self.old) image) }
+        ensures { OnOk result (timed_of self.new ≡ timed.on_give (timed_of self.old) image) }
     {
         if image.offset() <= self.seen.image {
             self.imaging.settle(ImageAnswer::Vain);
@@ -562,7 +566,7 @@ impl Link {
 
     /// What came of that image.
     pub fn settle_image(&mut self, answer: ImageAnswer)
-        ensures { driven_of self.new ≡ driven.image_answered (driven_of self.old) answer }
+        ensures { timed_of self.new ≡ timed.on_settle_image (timed_of self.old) answer }
     {
         self.imaging.settle(answer);
     }
