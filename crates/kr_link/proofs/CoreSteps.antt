@@ -8,10 +8,10 @@ use Rattle.law_quorum.specs.Changes.{base_of_first}
 use Rattle.law_link.specs.Links.{Held}
 use Rattle.law_core.specs.Core.{CallAppend, Deed, Elected, HandBatch, HandCommit, HandImage, Hear, Hold, Leading, LinkCore, Outcome, Pass, Role, Standby, after_lead_when_fed, becomes, leading, on_appended, on_batch, on_found, on_found_image, on_over, on_stood, on_won, core_step, Imaged, CallDrop, after_asking, asking, end_of, resigning}
 use Rattle.kr_link.specs.Cores.{asked_in, asking_in, beginning_in, begun_in, committed_in, committed_to, committing, telling_lost}
-use Rattle.kr_link.specs.Groups.{may_ask, waiting_group}
+use Rattle.kr_link.specs.Groups.{has_no_batch, may_ask, waiting_group}
 use Rattle.kr_link.specs.declared.actions.Action.TheVariants as actions
 use Rattle.kr_link.specs.declared.actions.DaemonFrame.TheVariants as frames
-use Rattle.kr_link.specs.Outgoing.{Outgoing, put_one, put_all}
+use Rattle.kr_link.specs.Outgoing.{Outgoing, again_with, append_action, put_all, put_one}
 use Rattle.kr_link.specs.Roles.{is_image_next, has_leadership, is_leading, is_batch_next, awaits_append}
 
 -- ---- over
@@ -51,14 +51,25 @@ module _ (h : Held) where
   asks_group [] (b ∷ bs) e = refl
   asks_group (first ∷ asked) waits e = absurd cc
 
-  pub ready_out : (asked waits group batches : List Batch) (end : ℕ) (out after : Outgoing) → may_ask asked waits ≡ true → group ≡ (waiting_group waits).0
-      → batches ≡ group → end ≡ base_of_first group → after ≡ put_one out (actions.Append (record { made = h.made; end = end }) batches)
-      → after ≡ put_all out (asking_in h asked waits)
-  ready_out asked waits group batches end out after e g same at a =
+  -- with both halves of its guard
+  pub call_out : (asked batches : List Batch) (end : ℕ) (out after : Outgoing) → batches ≡ asked → end ≡ base_of_first asked
+      → after ≡ put_one out (actions.Append (record { made = h.made; end = end }) batches) → after ≡ put_one out (append_action h asked)
+  call_out asked batches end out after same at a =
       a ∙ (ap (λ (n : ℕ). put_one out (actions.Append (record { made = h.made; end = n }) batches)) at
-      ∙ (ap (λ (xs : List Batch). put_one out (actions.Append (record { made = h.made; end = base_of_first group }) xs)) same
-      ∙ (ap (λ (xs : List Batch). put_one out (actions.Append (record { made = h.made; end = base_of_first xs }) xs)) g
-      ∙ sym (ap (λ (ds : List Deed). put_all out ds) (asks_group asked waits e)))))
+      ∙ ap (λ (xs : List Batch). put_one out (actions.Append (record { made = h.made; end = base_of_first asked }) xs)) same)
+
+  pub ready_out : (asked waits group : List Batch) (out after : Outgoing) → may_ask asked waits ≡ true → group ≡ (waiting_group waits).0
+      → after ≡ put_one out (append_action h group) → after ≡ put_all out (asking_in h asked waits)
+  ready_out asked waits group out after e g a =
+      a ∙ (ap (λ (xs : List Batch). put_one out (append_action h xs)) g ∙ sym (ap (λ (ds : List Deed). put_all out ds) (asks_group asked waits e)))
+
+  pub none_again : (out : Outgoing) (asked : List Batch) → has_no_batch asked ≡ true → out ≡ again_with out h asked
+  none_again out [] e = refl
+  none_again out (b ∷ bs) e = absurd cc
+
+  pub some_again : (out after : Outgoing) (asked : List Batch) → has_no_batch asked ≡ false → after ≡ put_one out (append_action h asked) → after ≡ again_with out h asked
+  some_again out after [] e a = absurd cc
+  some_again out after (b ∷ bs) e a = a
 
   -- the append under way is committed, and another one called for
   pub commit_out : (fed end : ℕ) (asked none waits : List Batch) (out mid after : Outgoing) → none ≡ [] → end ≡ end_of fed asked

@@ -5,3 +5,4 @@ pub mod Groups
 pub mod Outgoing
 pub mod Pings
 pub mod Roles
+pub mod TimedLinks

@@ -153,4 +153,11 @@ impl StoredImage {
     {
         self.bytes.get().as_slice()
     }
+
+    /// How many bytes it has.
+    pub fn size(&self) -> usize
+        ensures { result ≡ length self.now.bytes }
+    {
+        self.bytes.get().len()
+    }
 }

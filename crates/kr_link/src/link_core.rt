@@ -4,8 +4,8 @@ ghost use Rattle.std.specs.Prelude.{◌≡◌, OnOk, nat_lt};
 ghost use Rattle.law_core.specs.Core as laws;
 ghost use Rattle.law_core.specs.Core.{core_step, first_core};
 ghost use Rattle.kr_link.specs.Cores.{core_of};
-ghost use Rattle.kr_link.specs.Roles.{held_of, is_image_next, is_batch_next, law_role};
-ghost use Rattle.kr_link.specs.Outgoing.{put_all};
+ghost use Rattle.kr_link.specs.Roles.{held_of, is_batch_next, is_image_next, is_misplaced, law_role};
+ghost use Rattle.kr_link.specs.Outgoing.{put_again, put_all};
 
 use crate::{Action, DaemonFrame, Held, LinkRole, LogBatch, Outbox, StoredImage};
 use kr_base::NoMemory;
@@ -165,6 +165,20 @@ impl LinkCore {
         let end = self.role.commit(self.alloc, self.fed, out)?;
         self.fed = end;
         Ok(())
+    }
+
+    /// A batch of the daemon's leadership doesn't begin where the last one ends.
+    pub fn is_misplaced(&self, batch: &LogBatch) -> bool
+        ensures { result ≡ is_misplaced self.now.fed (law_role self.now.role) batch.now }
+    {
+        self.role.is_misplaced(self.fed, batch)
+    }
+
+    /// The append under way has no answer yet, and is called for again: it does no harm.
+    pub fn ask_again(&self, out: &mut Outbox) -> Result<(), NoMemory>
+        ensures { OnOk result (out.new ≡ put_again out.old (law_role self.now.role)) }
+    {
+        self.role.ask_again(self.alloc, out)
     }
 
     /// The daemon gave an image; the one that stood when it was looked last is of the place `before`.

@@ -4,10 +4,10 @@ ghost use Rattle.std.specs.Prelude.{◌≡◌, [], IfOk, OnOk, nat_eq};
 ghost use Rattle.law_core.specs.Core as laws;
 ghost use Rattle.law_core.specs.Core.{after_lead_when_fed, end_of, leading, resigning};
 ghost use Rattle.kr_link.specs.declared.roles.LinkRole.TheVariants as variants;
-ghost use Rattle.kr_link.specs.Roles.{held_in, held_of, has_leadership, is_leading, awaits_append, law_role};
+ghost use Rattle.kr_link.specs.Roles.{awaits_append, epoch_led, has_leadership, held_in, held_of, is_leading, is_made_at, is_misplaced, law_role, revision_held};
 ghost use Rattle.kr_link.specs.Cores.{asked_in, asking_in, beginning_in, begun_in, committed_in, committed_to, committing, telling_lost};
 ghost use Rattle.kr_link.specs.Groups.{may_ask};
-ghost use Rattle.kr_link.specs.Outgoing.{put_all};
+ghost use Rattle.kr_link.specs.Outgoing.{again_with, append_action, put_again, put_all, put_one};
 
 use crate::waiting::{base_of_first, end_of, first_base_of, has_no_batch};
 use crate::{Action, DaemonFrame, Guard, LogBatch, Outbox, WaitingBatches};
@@ -91,6 +91,20 @@ impl Leading {
         has_no_batch(&self.asked) && !self.waits.is_empty()
     }
 
+    // Calls for an append of those under way.
+    fn call(&self, alloc: Global, out: &mut Outbox) -> Result<(), NoMemory>
+        ensures { OnOk result (out.new
+            ≡ put_one out.old (append_action (held_of self.now.held) self.now.asked)) }
+    {
+        let guard = Guard {
+            made: self.held.made,
+            end: base_of_first(&self.asked),
+        };
+        let batches = self.asked.copied(alloc)?;
+        out.put(Action::Append { guard, batches })?;
+        Ok(())
+    }
+
     // Calls for an append of what waits, where something does and no append is under way.
     fn ask(&mut self, alloc: Global, out: &mut Outbox) -> Result<(), NoMemory>
         ensures role { OnOk result (law_role (variants.Leading self.new)
@@ -103,12 +117,19 @@ impl Leading {
         }
         let group = self.waits.take_group(alloc)?;
         self.asked = group;
-        let guard = Guard {
-            made: self.held.made,
-            end: base_of_first(&self.asked),
-        };
-        let batches = self.asked.copied(alloc)?;
-        out.put(Action::Append { guard, batches })?;
+        self.call(alloc, out)?;
+        Ok(())
+    }
+
+    // Calls for the append under way again, where one is.
+    fn ask_again(&self, alloc: Global, out: &mut Outbox) -> Result<(), NoMemory>
+        ensures { OnOk result (out.new
+            ≡ again_with out.old (held_of self.now.held) self.now.asked) }
+    {
+        if has_no_batch(&self.asked) {
+            return Ok(());
+        }
+        self.call(alloc, out)?;
         Ok(())
     }
 
@@ -116,6 +137,19 @@ impl Leading {
         ensures { result ≡ nat_eq batch.now.epoch self.now.held.epoch }
     {
         batch.epoch() == self.held.epoch
+    }
+
+    // The place where its next batch is to begin.
+    fn tip(&self, fed: u64) -> u64
+        ensures { result ≡ laws.end_of (laws.end_of fed self.now.asked) self.now.waits }
+    {
+        self.waits.end_behind(end_of(&self.asked, fed))
+    }
+
+    fn is_misplaced(&self, fed: u64, batch: &LogBatch) -> bool
+        ensures { result ≡ is_misplaced fed (law_role (variants.Leading self.now)) batch.now }
+    {
+        self.is_own(batch) && batch.base() != self.tip(fed)
     }
 
     // A batch of the leadership waits, and is called for where no append is under way.
@@ -201,6 +235,58 @@ impl LinkRole {
         match self {
             LinkRole::Leading(leading) => leading.awaits_append(made, base),
             _ => false,
+        }
+    }
+
+    /// The revision at which the key of the leadership that is held was made.
+    pub fn made(&self) -> Option<u64>
+        ensures { result ≡ revision_held (law_role self.now) }
+    {
+        match self {
+            LinkRole::Standby => None,
+            LinkRole::Elected(held) => Some(held.made),
+            LinkRole::Leading(leading) => Some(leading.held.made),
+        }
+    }
+
+    /// The key of the leadership that is held was made at this revision.
+    pub fn is_made_at(&self, made: u64) -> bool
+        ensures { result ≡ is_made_at made (law_role self.now) }
+    {
+        match self {
+            LinkRole::Standby => false,
+            LinkRole::Elected(held) => held.made == made,
+            LinkRole::Leading(leading) => leading.held.made == made,
+        }
+    }
+
+    /// The epoch that the daemon leads.
+    pub fn epoch_led(&self) -> Option<u32>
+        ensures { result ≡ epoch_led (law_role self.now) }
+    {
+        match self {
+            LinkRole::Leading(leading) => Some(leading.held.epoch),
+            _ => None,
+        }
+    }
+
+    // The daemon was fed up to `fed`, and its batch doesn't begin where the last one of its leadership ends.
+    pub(crate) fn is_misplaced(&self, fed: u64, batch: &LogBatch) -> bool
+        ensures { result ≡ is_misplaced fed (law_role self.now) batch.now }
+    {
+        match self {
+            LinkRole::Leading(leading) => leading.is_misplaced(fed, batch),
+            _ => false,
+        }
+    }
+
+    // Calls for the append under way again, where one is.
+    pub(crate) fn ask_again(&self, alloc: Global, out: &mut Outbox) -> Result<(), NoMemory>
+        ensures { OnOk result (out.new ≡ put_again out.old (law_role self.now)) }
+    {
+        match self {
+            LinkRole::Leading(leading) => leading.ask_again(alloc, out),
+            _ => Ok(()),
         }
     }
 

@@ -21,5 +21,5 @@ returns-clause-role c =
 
 pub returns-clause-out : goal.returns-clause-out
 returns-clause-out c =
-    ready_out (held_of c.args.self.now.held) c.args.self.now.asked c.args.self.now.waits _ _ _ c.args.out.now _ (sym c.may_ask.ensures ∙ c.if-not-may_ask.false)
-    c.in_ok-group.ensures.group c.in_ok-batches.ensures c.base_of_first.ensures c.in_ok-put.ensures
+    ready_out (held_of c.args.self.now.held) c.args.self.now.asked c.args.self.now.waits _ c.args.out.now _ (sym c.may_ask.ensures ∙ c.if-not-may_ask.false)
+    c.in_ok-group.ensures.group c.in_ok-call.ensures
