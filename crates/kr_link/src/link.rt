@@ -606,7 +606,7 @@ impl Link {
         if !self.is_reading() {
             return Ok(());
         }
-        let bytes = batch.size();
+        let bytes = batch.size() as u64;
         self.feed(batch)?;
         self.count(bytes, now)?;
         Ok(())
@@ -629,7 +629,7 @@ impl Link {
         if self.is_far_ahead() {
             return Ok(());
         }
-        let bytes = image.size();
+        let bytes = image.size() as u64;
         self.load(image)?;
         self.count(bytes, now)?;
         Ok(())
