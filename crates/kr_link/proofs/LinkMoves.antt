@@ -1,5 +1,5 @@
 -- Each call of a link is moves of its core.
-use Rattle.std.proofs.Common.{◌≡◌, ◌∙◌, sym, ℕ, Bool, true, false, cond, List, [], ◌∷◌, ◌++◌, refl, ap}
+use Rattle.std.proofs.Common.{◌≡◌, ◌∙◌, sym, ℕ, ◌+◌, Bool, true, false, cond, List, [], ◌∷◌, ◌++◌, refl, ap}
 use Rattle.std.proofs.lemmas.List.{append_assoc, append-nil}
 use Rattle.std.proofs.lemmas.List.Sums.{fold-append}
 use Rattle.std.specs.Prelude.{Option, None, Some, flat_map, fold, length}
@@ -13,12 +13,12 @@ use Rattle.kr_link.specs.declared.campaigns.Campaign.{Campaign}
 use Rattle.kr_link.specs.declared.imaging.ImageAnswer.TheVariants as answers
 use Rattle.kr_link.specs.declared.link.SeenLog.{SeenLog}
 use Rattle.kr_link.specs.declared.roles.Held.{Held}
-use Rattle.kr_link.specs.Clocks.{next_campaign}
+use Rattle.kr_link.specs.Clocks.{campaign_at, has_token}
 use Rattle.kr_link.specs.Outgoing.{Outgoing, actions_of, put_again, put_one}
 use Rattle.kr_link.specs.Pings.{Pinged}
 use Rattle.kr_link.specs.Roles.{held_of, revision_held}
 use Rattle.kr_link.specs.TimedLinks.{TimedLink, admits, asks_again, asks_image, asks_renewal, beats, beats_when_due, calls_again, calls_campaign, campaign_of, campaigning, closes, commits, considers, counts, done_asking, ends_when_due, feeds, follows, gives_up, hears, holds, holds_any, is_ahead_now, is_awaited, is_beat, is_below_end, is_below_image, is_due_to_end, is_follower, is_held_at, is_later_image, is_looking, is_ping_answer, is_ping_due, is_reading, is_served, is_silent, is_stray, is_to_renew, keeps_image, let_go, loads, looks, may_campaign, notes, on_fail, on_find, on_find_image, on_finish, on_give, on_join, on_lapse, on_miss, on_part, on_refuse, on_renewal, on_see, on_settle_image, on_stand, on_wake, on_win, on_write, pinged, pinged_of, reads_batches, reads_image, refuses, renewal_of, renews, resigns, serves, serves_none, settles_campaign, stands_for, tells, ticks, tries, wants_image, with_beat, with_bytes, with_ping_answer, grants, is_idle}
-use Rattle.kr_link.specs.LinkMoves.{AreLinkMoves, CallAgain, CallsAreMoves, CoreWork, Do, Fail, Find, FindImage, Finish, Give, GiveUp, Join, Lapse, LinkCall, LinkMove, Lose, Miss, Part, Refuse, Renewal, See, SettleImage, Stand, TakesWhatCame, Wake, Win, Write, again_actions, work_after, core_work, work_told}
+use Rattle.kr_link.specs.LinkMoves.{AreLinkMoves, CallAgain, CallsAreMoves, Campaigns, CoreWork, Do, Fail, Find, FindImage, Finish, Give, GiveUp, Join, Lapse, LinkCall, LinkMove, Lose, Miss, Part, Refuse, Renewal, See, SettleImage, Stand, TakesWhatCame, Wake, Win, Write, again_actions, work_after, core_work, work_told, won_came}
 
 -- ---- moves one after the other
 
@@ -44,11 +44,11 @@ all_put : (more : List Action) (out : Outgoing) → (fold put_one out more).acti
 all_put [] out = sym (append-nil out.actions)
 all_put (action ∷ more) out = all_put more (put_one out action) ∙ append_assoc out.actions (action ∷ []) more
 
-abbrev work_with : AnyCore → List Action → CoreWork
-work_with core done = record { core = core; actions = done }
+abbrev work_with : TimedLink → AnyCore → List Action → CoreWork
+work_with l core done = record { core = core; actions = done; next = l.campaigns.next }
 
 told : (l : TimedLink) (came : Came) → work_told (core_work l) came ≡ core_work (tells l came)
-told l came = sym (ap (λ (done : List Action). work_with (core_step l.core came).0 done) (all_put (flat_map actions_of (core_step l.core came).1) l.out))
+told l came = sym (ap (λ (done : List Action). work_with l (core_step l.core came).0 done) (all_put (flat_map actions_of (core_step l.core came).1) l.out))
 
 over : (l : TimedLink) → AreLinkMoves (core_work l) (core_work (gives_up l))
 unfolding gives_up
@@ -86,7 +86,7 @@ called : (l : TimedLink) → AreLinkMoves (core_work l) (core_work (calls_again 
 unfolding calls_again asks_again
 called l =
     either (core_work l) l.is_unanswered (asks_again l) l
-    (ends_at (core_work l) (work_after (core_work l) CallAgain) (core_work (asks_again l)) (one (core_work l) CallAgain) (ap (λ (done : List Action). work_with l.core done) (again l l.core.role refl)))
+    (ends_at (core_work l) (work_after (core_work l) CallAgain) (core_work (asks_again l)) (one (core_work l) CallAgain) (ap (λ (done : List Action). work_with l l.core done) (again l l.core.role refl)))
     (none (core_work l))
 
 renewal : (l : TimedLink) (made : Option ℕ) → AreLinkMoves (core_work l) (core_work (renewal_of l made))
@@ -128,13 +128,14 @@ woken l now =
 
 -- ---- what is read
 
-stood_for : (l : TimedLink) (campaign : Option Campaign) → AreLinkMoves (core_work l) (core_work (calls_campaign l campaign))
-stood_for l None = none (core_work l)
-stood_for l (Some campaign) = one (core_work l) (Do (actions.Campaign campaign.token))
+stood_for : (l : TimedLink) (now : ℕ) (t : Bool)
+    → AreLinkMoves (core_work l) (core_work (calls_campaign (record l { campaigns = cond t (record { next = l.campaigns.next + 1; under_way = Some (campaign_at l.campaigns now) }) l.campaigns }) (cond t (Some (campaign_at l.campaigns now)) None)))
+stood_for l now false = none (core_work l)
+stood_for l now true = one (core_work l) Campaigns
 
 campaigned : (l : TimedLink) (now : ℕ) → AreLinkMoves (core_work l) (core_work (stands_for l now))
 unfolding stands_for campaigning
-campaigned l now = either (core_work l) (may_campaign l now) (campaigning l now) l (stood_for _ (next_campaign l.campaigns now)) (none (core_work l))
+campaigned l now = either (core_work l) (may_campaign l now) (campaigning l now) l (stood_for l now (has_token l.campaigns)) (none (core_work l))
 
 followed : (l : TimedLink) (now : ℕ) → AreLinkMoves (core_work l) (core_work (follows l now))
 unfolding follows reads_image reads_batches
@@ -207,14 +208,14 @@ module _ (l : TimedLink) where
   unfolding holds
   held_so held asked = comes (laws.Won (held_of held)) l (holds l held asked) (none (core_work (tells l (laws.Won (held_of held)))))
 
-  admitted : (held : Held) (campaign : Option Campaign) → TakesWhatCame (laws.Won (held_of held)) (core_work l) (core_work (admits l held campaign))
+  admitted : (held : Held) (campaign : Option Campaign) → TakesWhatCame (won_came held campaign) (core_work l) (core_work (admits l held campaign))
   unfolding admits
-  admitted held None = passes (laws.Won (held_of held)) l (resigns l held) (resigned held)
+  admitted held None = passes Over l (resigns l held) (resigned held)
   admitted held (Some campaign) =
       branch (laws.Won (held_of held)) (core_work l) (holds_any l) (resigns l held) (holds l held campaign.asked)
       (passes (laws.Won (held_of held)) l (resigns l held) (resigned held)) (held_so held campaign.asked)
 
-won : (l : TimedLink) (token : ℕ) (held : Held) → TakesWhatCame (laws.Won (held_of held)) (core_work l) (core_work (on_win l token held))
+won : (l : TimedLink) (token : ℕ) (held : Held) → TakesWhatCame (won_came held (campaign_of l token)) (core_work l) (core_work (on_win l token held))
 unfolding on_win settles_campaign
 won l token held = admitted (settles_campaign l token) held (campaign_of l token)
 

@@ -442,7 +442,7 @@ impl Link {
     }
 
     // It doesn't lead, and its daemon answers.
-    #[tactic(auto, unfolding(crate::specs::TimedLinks::timed_of, crate::specs::TimedLinks::is_follower))]
+    #[tactic(auto, unfolding(crate::specs::TimedLinks::timed_of, crate::specs::TimedLinks::is_follower, crate::specs::TimedLinks::is_ahead_now))]
     fn is_follower(&self) -> bool
         ensures { result ≡ timed.is_follower (timed_of self.now) }
     {
@@ -583,7 +583,7 @@ impl Link {
         self.send_ping(now)
     }
 
-    #[tactic(auto, unfolding(crate::specs::TimedLinks::timed_of, crate::specs::TimedLinks::is_reading))]
+    #[tactic(auto, unfolding(crate::specs::TimedLinks::timed_of, crate::specs::TimedLinks::is_reading, crate::specs::TimedLinks::is_ahead_now))]
     fn is_reading(&self) -> bool
         ensures { result ≡ timed.is_reading (timed_of self.now) }
     {
