@@ -1,12 +1,12 @@
 -- A core's steps, by what its role is.
-use Rattle.std.proofs.Common.{◌≡◌, ◌∙◌, sym, ℕ, zero, suc, ◌+◌, ◌-◌, Bool, true, false, cond, List, [], ◌∷◌, ◌++◌, length, refl, ap, arith}
+use Rattle.std.proofs.Common.{◌≡◌, ◌∙◌, sym, ℕ, ◌+◌, ◌-◌, Bool, true, false, cond, List, [], ◌∷◌, ◌++◌, refl, ap}
 use Rattle.std.proofs.lemmas.Bool.{cond-true, cond-false, eqb-true}
 use Rattle.std.specs.Cmp.{second_so}
 use Rattle.std.specs.Prelude.{◌&&◌, nat_eq, nat_lt, not}
 use Rattle.law_quorum.specs.Batches.{Batch, StoredImage}
 use Rattle.law_quorum.specs.Changes.{base_of_first}
 use Rattle.law_link.specs.Links.{Held}
-use Rattle.law_core.specs.Core.{CallAppend, Deed, Elected, HandBatch, HandCommit, HandImage, Hear, Hold, Leading, LinkCore, Outcome, Pass, Role, Standby, after_lead_when_fed, becomes, leading, on_appended, on_batch, on_found, on_found_image, on_over, on_stood, on_won, core_step, Imaged, CallDrop, after_asking, asking, end_of, resigning}
+use Rattle.law_core.specs.Core.{CallAppend, Deed, Elected, HandBatch, HandImage, Hear, Hold, Leading, LinkCore, Outcome, Pass, Role, Standby, after_lead_when_fed, becomes, leading, on_appended, on_batch, on_found, on_found_image, on_over, on_stood, on_won, core_step, Imaged, CallDrop, asking, end_of, resigning}
 use Rattle.kr_link.specs.Cores.{asked_in, asking_in, beginning_in, begun_in, committed_in, committed_to, committing, telling_lost}
 use Rattle.kr_link.specs.Groups.{has_no_batch, may_ask, waiting_group}
 use Rattle.kr_link.specs.declared.actions.Action.TheVariants as actions

@@ -18,7 +18,7 @@ use Rattle.kr_link.specs.Outgoing.{Outgoing, actions_of, put_again, put_one}
 use Rattle.kr_link.specs.Pings.{Pinged}
 use Rattle.kr_link.specs.Roles.{held_of, revision_held}
 use Rattle.kr_link.specs.TimedLinks.{TimedLink, admits, asks_again, asks_image, asks_renewal, beats, beats_when_due, calls_again, calls_campaign, campaign_of, campaigning, closes, commits, considers, counts, done_asking, ends_when_due, feeds, follows, gives_up, hears, holds, holds_any, is_ahead_now, is_awaited, is_beat, is_below_end, is_below_image, is_due_to_end, is_follower, is_held_at, is_later_image, is_looking, is_ping_answer, is_ping_due, is_reading, is_served, is_silent, is_stray, is_to_renew, keeps_image, let_go, loads, looks, may_campaign, notes, on_fail, on_find, on_find_image, on_finish, on_give, on_join, on_lapse, on_miss, on_part, on_refuse, on_renewal, on_see, on_settle_image, on_stand, on_wake, on_win, on_write, pinged, pinged_of, reads_batches, reads_image, refuses, renewal_of, renews, resigns, serves, serves_none, settles_campaign, stands_for, tells, ticks, tries, wants_image, with_beat, with_bytes, with_ping_answer, grants, is_idle}
-use Rattle.kr_link.specs.LinkMoves.{AreLinkMoves, CallAgain, CallsAreMoves, Campaigns, CoreWork, Do, Fail, Find, FindImage, Finish, Give, GiveUp, Join, Lapse, LinkCall, LinkMove, Lose, Miss, Part, Refuse, Renewal, See, SettleImage, Stand, TakesWhatCame, Wake, Win, Write, again_actions, work_after, core_work, work_told, won_came}
+use Rattle.kr_link.specs.LinkMoves.{AreLinkMoves, CallAgain, CallsAreMoves, Campaigns, CoreWork, Do, Fail, Find, FindImage, Finish, Give, GiveUp, Join, Lapse, LinkMove, Lose, Miss, Part, Refuse, Renewal, See, SettleImage, Stand, TakesWhatCame, Wake, Win, Write, again_actions, work_after, core_work, work_told, won_came}
 
 -- ---- moves one after the other
 

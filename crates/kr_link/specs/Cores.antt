@@ -2,7 +2,7 @@
 use Rattle.std.specs.Prelude.{ℕ, List, [], ◌∷◌}
 use Rattle.law_quorum.specs.Batches.{Batch}
 use Rattle.law_link.specs.Links.{Held}
-use Rattle.law_core.specs.Core.{Deed, Elected, HandCommit, HandLost, Leading, LinkCore as AnyCore, Role, Standby, after_asking, after_lead_when_fed, asking, end_of, leading}
+use Rattle.law_core.specs.Core.{Deed, Elected, HandCommit, HandLost, Leading, LinkCore as AnyCore, Role, after_asking, after_lead_when_fed, asking, end_of, leading}
 use Rattle.kr_link.specs.declared.link_core.LinkCore.{LinkCore}
 use Rattle.kr_link.specs.Roles.{law_role}
 

@@ -1,5 +1,5 @@
 -- Batches that wait, and those of them that go together in an append.
-use Rattle.std.specs.Prelude.{ℕ, ◌+◌, Bool, true, false, cond, not, ◌&&◌, List, [], ◌∷◌, ◌++◌, length, Option, Some, None, nat_le, option_map, slice_get}
+use Rattle.std.specs.Prelude.{ℕ, ◌+◌, Bool, true, false, cond, not, ◌&&◌, List, [], ◌∷◌, length, Option, Some, None, nat_le, option_map, slice_get}
 use Rattle.law_quorum.specs.Batches.{Batch}
 use Rattle.law_core.specs.Core.{AppendGroup, append_group}
 

@@ -1,8 +1,8 @@
 -- A link by its clock: when it asks and renews, pings and feeds, and what of what comes its core is told.
-use Rattle.std.specs.Prelude.{ℕ, ◌+◌, ◌-◌, ◌*◌, ◌^◌, Bool, true, false, cond, not, ◌&&◌, ◌||◌, List, [], ◌∷◌, ◌++◌, length, min, option_map, option_to_list, Option, Some, None, nat_eq, nat_le, nat_lt}
+use Rattle.std.specs.Prelude.{ℕ, ◌+◌, ◌-◌, ◌*◌, ◌^◌, Bool, true, false, cond, not, ◌&&◌, ◌||◌, [], ◌∷◌, ◌++◌, length, min, option_map, option_to_list, Option, Some, None, nat_le, nat_lt}
 use Rattle.std.specs.Option.{is_some, option_map_or}
 use Rattle.law_quorum.specs.Batches.{Batch, StoredImage}
-use Rattle.law_core.specs.Core.{Appended, Came, Found, FoundImage, Imaged, Joined, LinkCore as AnyCore, Over, Role as AnyRole, Stood, Won, core_step}
+use Rattle.law_core.specs.Core.{Appended, Came, Found, FoundImage, Imaged, Joined, LinkCore as AnyCore, Over, Stood, Won, core_step}
 use Rattle.law_core.specs.Core as laws
 use Rattle.kr_link.specs.declared.actions.Action.{Action}
 use Rattle.kr_link.specs.declared.actions.Action.TheVariants as actions
@@ -18,7 +18,6 @@ use Rattle.kr_link.specs.declared.link.StoreQuestion.{StoreQuestion}
 use Rattle.kr_link.specs.declared.link.StoreQuestion.TheVariants as questions
 use Rattle.kr_link.specs.declared.link.SeenLog.{SeenLog}
 use Rattle.kr_link.specs.declared.link.LinkSettings.{LinkSettings}
-use Rattle.kr_link.specs.declared.pings.Ping.{Ping}
 use Rattle.kr_link.specs.declared.roles.Held.{Held}
 use Rattle.kr_link.specs.Clocks.{begun_with, granted, image_settled, is_image_wanted, is_renewal_due, may_be_over, next_campaign, settled_with, tried_at, won_with}
 use Rattle.kr_link.specs.Cores.{core_of}

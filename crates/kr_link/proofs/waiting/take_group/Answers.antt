@@ -1,5 +1,5 @@
 use Rattle.std.proofs.Common.{◌≡◌, ◌∙◌, sym, ap, arith, ◌-◌, List, [], ◌∷◌, ◌++◌}
-use Rattle.std.specs.Prelude.{Option, None, Some}
+use Rattle.std.specs.Prelude.{None, Some}
 use Rattle.law_quorum.specs.Batches.{Batch}
 use Rattle.law_core.specs.Core.{AppendGroup}
 use Rattle.kr_link.proofs.Grouping.{group_of_first, none_grouped, none_left, none_popped, one_popped, rest_of_first}
