@@ -105,6 +105,12 @@ def shared_end(comments):
     return found[0] if found else ""
 
 
+def without_own(comment):
+    """A comment without what it ends with where the file is this project's own, and whether it is."""
+    told = re.sub(r"(?: Own\.| \(own\)\.)$", "", comment).rstrip(".") + "."
+    return told, told != comment
+
+
 def listing():
     """A heading for each crate with definitions, and a line for each of its files; what all of these end with stands once."""
     program = set(reached([PROGRAM])[0])
@@ -115,8 +121,8 @@ def listing():
         lines = [f"Each {end[2:]}\n\n"] if end else []
         for path, comment in said.items():
             name = path.split("/specs/")[1][:-len(".antt")]
-            told = comment[:len(comment) - len(end)] + "." if end else comment
-            lines.append(f"- `{name}` ({lines_of(path)}{'*' if path in program else ''}): {told}\n")
+            told, is_own = without_own(comment[:len(comment) - len(end)] + "." if end else comment)
+            lines.append(f"- `{name}` ({lines_of(path)}{'*' if path in program else ''}{'°' if is_own else ''}): {told}\n")
         if said:
             parts.append(f"### {crate}\n\n" + "".join(lines))
     return "\n".join(parts)

@@ -7,9 +7,9 @@ use Rattle.std.specs.Option.{option_map_or}
 use Rattle.law_quorum.specs.Batches.{Batch}
 use Rattle.law_quorum.specs.Changes.{base_of_first}
 use Rattle.law_core.specs.Core.{AppendGroup, append_group_behind, end_of, with_first}
-use Rattle.kr_link.specs.Groups.{fitted, is_none, left_behind, place_behind, waiting_group}
+use Rattle.kr_link.specs.Groups.{fitted, has_no_batch, left_behind, batch_end, waiting_group}
 
-pub none_is : (xs : List Batch) → (length xs == 0) ≡ is_none xs
+pub none_is : (xs : List Batch) → (length xs == 0) ≡ has_no_batch xs
 none_is [] = refl
 none_is (b ∷ bs) = grind (arith, nat_tests)
 
@@ -17,11 +17,11 @@ pub first_is : (xs : List Batch) → option_map_or (λ (b : Batch). b.base) (sli
 first_is [] = refl
 first_is (b ∷ bs) = refl
 
-last_of : (from d : ℕ) (b : Batch) (bs : List Batch) → option_map_or place_behind (slice_get (b ∷ bs) (length bs)) d ≡ end_of from (b ∷ bs)
+last_of : (from d : ℕ) (b : Batch) (bs : List Batch) → option_map_or batch_end (slice_get (b ∷ bs) (length bs)) d ≡ end_of from (b ∷ bs)
 last_of from d b [] = refl
 last_of from d b (c ∷ bs) = last_of (b.base + b.count) d c bs
 
-pub last_ends : (from : ℕ) (bs : List Batch) → option_map_or place_behind (slice_get bs (length bs - 1)) from ≡ end_of from bs
+pub last_ends : (from : ℕ) (bs : List Batch) → option_map_or batch_end (slice_get bs (length bs - 1)) from ≡ end_of from bs
 last_ends from [] = refl
 last_ends from (b ∷ bs) = (let at : suc (length bs) - 1 ≡ length bs = omega arith in rw at (last_of from from b bs))
 

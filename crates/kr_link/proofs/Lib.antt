@@ -1,2 +1,3 @@
 pub mod CoreSteps
 pub mod Grouping
+pub mod LinkMoves

@@ -12,11 +12,11 @@ abbrev pub may_be_over : Lease → ℕ → Bool
 may_be_over lease now = nat_le lease.term (now - lease.asked)
 
 -- a quarter of the term after the last one
-abbrev pub is_due : Lease → ℕ → Bool
-is_due lease now = not lease.is_renewing && nat_le (lease.term / 4) (now - lease.tried)
+abbrev pub is_renewal_due : Lease → ℕ → Bool
+is_renewal_due lease now = not lease.is_renewing && nat_le (lease.term / 4) (now - lease.tried)
 
 abbrev pub tried_at : Lease → ℕ → Lease
-tried_at lease now = cond (is_due lease now) (record lease { tried = now; is_renewing = true }) lease
+tried_at lease now = cond (is_renewal_due lease now) (record lease { tried = now; is_renewing = true }) lease
 
 -- a renewal that was granted counts from when it was asked for
 abbrev pub granted : Lease → Bool → Lease
@@ -47,8 +47,8 @@ left_under_way (Some campaign) token = cond (nat_eq campaign.token token) None (
 abbrev pub won_with : Campaigns → ℕ → Option Campaign
 won_with c token = with_token c.under_way token
 
-abbrev pub settled : Campaigns → ℕ → Campaigns
-settled c token = record c { under_way = left_under_way c.under_way token }
+abbrev pub settled_with : Campaigns → ℕ → Campaigns
+settled_with c token = record c { under_way = left_under_way c.under_way token }
 
 -- ---- images
 

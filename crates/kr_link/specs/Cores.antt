@@ -2,12 +2,12 @@
 use Rattle.std.specs.Prelude.{ℕ, List, [], ◌∷◌}
 use Rattle.law_quorum.specs.Batches.{Batch}
 use Rattle.law_link.specs.Links.{Held}
-use Rattle.law_core.specs.Core.{Deed, Elected, HandCommit, HandLost, Leading, LinkCore as AnyCore, Role, Standby, after_asking, after_lead_when_fed, asking, end_of, leading}
+use Rattle.law_core.specs.Core.{Deed, Elected, HandCommit, HandLost, Leading, LinkCore as AnyCore, Role, after_asking, after_lead_when_fed, asking, end_of, leading}
 use Rattle.kr_link.specs.declared.link_core.LinkCore.{LinkCore}
-use Rattle.kr_link.specs.Roles.{role_of}
+use Rattle.kr_link.specs.Roles.{law_role}
 
 abbrev pub core_of : LinkCore → AnyCore
-core_of c = record { fed = c.fed; role = role_of c.role }
+core_of c = record { fed = c.fed; role = law_role c.role }
 
 -- where no append is under way, one of what waits is called for
 abbrev pub asked_in : Held → List Batch → List Batch → Role
@@ -23,9 +23,9 @@ abbrev pub begun_in : ℕ → Role → Role
 begun_in fed (Elected h) = after_lead_when_fed fed h
 begun_in fed other = other
 
-abbrev pub begins_in : ℕ → Role → List Deed
-begins_in fed (Elected h) = leading fed h
-begins_in fed other = []
+abbrev pub beginning_in : ℕ → Role → List Deed
+beginning_in fed (Elected h) = leading fed h
+beginning_in fed other = []
 
 -- the append under way is committed
 abbrev pub committed_to : ℕ → Role → ℕ
@@ -41,6 +41,6 @@ committing fed (Leading h asked waits) = HandCommit h (end_of fed asked) ∷ ask
 committing fed other = []
 
 -- the daemon is told of a leadership that is lost
-abbrev pub lost : Role → List Deed
-lost (Leading h asked waits) = HandLost h ∷ []
-lost other = []
+abbrev pub telling_lost : Role → List Deed
+telling_lost (Leading h asked waits) = HandLost h ∷ []
+telling_lost other = []

@@ -1,18 +1,18 @@
 -- Batches that wait, and those of them that go together in an append.
-use Rattle.std.specs.Prelude.{ℕ, ◌+◌, Bool, true, false, cond, not, ◌&&◌, List, [], ◌∷◌, ◌++◌, length, Option, Some, None, nat_le, option_map, slice_get}
+use Rattle.std.specs.Prelude.{ℕ, ◌+◌, Bool, true, false, cond, not, ◌&&◌, List, [], ◌∷◌, length, Option, Some, None, nat_le, option_map, slice_get}
 use Rattle.law_quorum.specs.Batches.{Batch}
 use Rattle.law_core.specs.Core.{AppendGroup, append_group}
 
-abbrev pub is_none : List Batch → Bool
-is_none [] = true
-is_none (b ∷ bs) = false
+abbrev pub has_no_batch : List Batch → Bool
+has_no_batch [] = true
+has_no_batch (b ∷ bs) = false
 
 -- where the first begins
-abbrev pub base_of : List Batch → Option ℕ
-base_of bs = option_map (λ (b : Batch). b.base) (slice_get bs 0)
+abbrev pub first_base_of : List Batch → Option ℕ
+first_base_of bs = option_map (λ (b : Batch). b.base) (slice_get bs 0)
 
-abbrev pub place_behind : Batch → ℕ
-place_behind b = b.base + b.count
+abbrev pub batch_end : Batch → ℕ
+batch_end b = b.base + b.count
 
 -- the group, and what stays
 abbrev pub waiting_group : List Batch → AppendGroup
@@ -29,5 +29,5 @@ left_behind room [] = []
 left_behind room (b ∷ bs) = cond (nat_le (length b.bytes) room) bs (b ∷ bs)
 
 -- no append is under way, and something waits
-abbrev pub is_ready : List Batch → List Batch → Bool
-is_ready asked waits = is_none asked && not (is_none waits)
+abbrev pub may_ask : List Batch → List Batch → Bool
+may_ask asked waits = has_no_batch asked && not (has_no_batch waits)

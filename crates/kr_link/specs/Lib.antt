@@ -2,6 +2,8 @@ pub mod Clocks
 pub mod Cores
 pub mod Faults
 pub mod Groups
+pub mod LinkMoves
 pub mod Outgoing
 pub mod Pings
 pub mod Roles
+pub mod TimedLinks

@@ -11,20 +11,20 @@ pub record Pinged : Type 0 where
   -- when it last answered
   pub heard : Option ℕ
 
-abbrev pub is_same_epoch : Option ℕ → Option ℕ → Bool
-is_same_epoch (Some one) (Some other) = nat_eq one other
-is_same_epoch None None = true
-is_same_epoch one other = false
+abbrev pub leads_as : Option ℕ → Option ℕ → Bool
+leads_as (Some one) (Some other) = nat_eq one other
+leads_as None None = true
+leads_as one other = false
 
 -- a refusal of this event, of a daemon that leads this epoch, answers the oldest
 abbrev pub is_answer : List Ping → ℕ → Option ℕ → Bool
-is_answer sent event led = option_map_or (λ (ping : Ping). nat_eq ping.event event && is_same_epoch ping.led led) (slice_get sent 0) false
+is_answer sent event led = option_map_or (λ (ping : Ping). nat_eq ping.event event && leads_as ping.led led) (slice_get sent 0) false
 
-abbrev pub answered : Pinged → ℕ → Option ℕ → ℕ → Pinged
-answered p event led now = cond (is_answer p.sent event led) (record p { sent = drop 1 p.sent; heard = Some now }) p
+abbrev pub after_answer : Pinged → ℕ → Option ℕ → ℕ → Pinged
+after_answer p event led now = cond (is_answer p.sent event led) (record p { sent = drop 1 p.sent; heard = Some now }) p
 
-abbrev pub is_ahead : List Ping → Bool
-is_ahead sent = nat_lt 2 (length sent)
+abbrev pub is_far_ahead : List Ping → Bool
+is_far_ahead sent = nat_lt 2 (length sent)
 
 abbrev pub silence : List Ping → ℕ → ℕ
 silence sent now = option_map_or (λ (ping : Ping). now - ping.at) (slice_get sent 0) 0

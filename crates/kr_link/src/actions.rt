@@ -2,9 +2,9 @@
 
 ghost use Rattle.std.specs.Prelude.{◌≡◌, ◌++◌, ℕ, [], OnOk, if◌then◌else◌, option_to_list};
 ghost use Rattle.kr_base.specs.Causes.{raised};
-ghost use Rattle.kr_link.specs.Outgoing.{counted, put};
+ghost use Rattle.kr_link.specs.Outgoing.{events_behind, put_one};
 
-use crate::{Batch, StoredImage};
+use crate::{LogBatch, StoredImage};
 use kr_base::NoMemory;
 use kr_defs::Rows;
 use std::alloc::Global;
@@ -13,9 +13,9 @@ use std::marker::Model;
 
 /// A frame for the daemon, which counts each as an event.
 #[derive(Drop)]
-pub enum Frame {
+pub enum DaemonFrame {
     /// The next batch of the log.
-    Feed(Batch),
+    Feed(LogBatch),
     /// An image that stands for the log up to its offset.
     Load(StoredImage),
     /// It leads in this epoch, from the end of the log on.
@@ -33,7 +33,7 @@ pub enum Frame {
 /// What a transaction compares that appends batches.
 #[derive(Clone, Copy, Debug, Drop, PartialEq, Eq)]
 pub struct Guard {
-    /// The leader key was made at this revision.
+    /// The number of the revision at which the leader key was made.
     pub made: u64,
     /// The log ends at this place.
     pub end: u64,
@@ -43,7 +43,7 @@ pub struct Guard {
 #[derive(Drop)]
 pub enum Action {
     /// A frame goes to the daemon.
-    Send(Frame),
+    Send(DaemonFrame),
     /// The daemon is asked for an image; it counts that as no event.
     AskImage,
     /// The daemon's connection is closed.
@@ -64,7 +64,7 @@ pub enum Action {
     /// These batches are appended, where the guard holds.
     Append {
         guard: Guard,
-        batches: Rows<Batch>,
+        batches: Rows<LogBatch>,
     },
     /// The batches below a place are dropped, and the image that stands for them takes their place, where the one that stands is of
     /// the place `before`.
@@ -99,7 +99,8 @@ impl Model for Outbox {
 }
 
 fn is_event(action: &Action) -> bool
-    ensures { (events : ℕ) → counted events action.now ≡ (if result then raised events else events) }
+    ensures { (events : ℕ) → events_behind events action.now
+        ≡ (if result then raised events else events) }
 {
     matches!(action, Action::Send(_))
 }
@@ -117,7 +118,7 @@ impl Outbox {
 
     /// One more, behind all others.
     pub fn put(&mut self, action: Action) -> Result<(), NoMemory>
-        ensures { OnOk result (self.new ≡ put self.old action) }
+        ensures { OnOk result (self.new ≡ put_one self.old action) }
     {
         let is_event = is_event(&action);
         self.actions.push_back(action)?;
@@ -129,7 +130,8 @@ impl Outbox {
 
     /// The first of them, which is done next.
     pub fn take(&mut self) -> Option<Action>
-        ensures { self.old ≡ record self.new { actions = option_to_list result ++ self.new.actions } }
+        ensures { self.old
+            ≡ record self.new { actions = option_to_list result ++ self.new.actions } }
     {
         self.actions.pop_front()
     }

@@ -13,7 +13,7 @@ pub const END_OF_PLACES: u64 = 9_223_372_036_854_775_808;
 
 /// Why bytes are no batch.
 #[derive(Clone, Copy, Debug, Drop, PartialEq, Eq)]
-pub enum BatchFault {
+pub enum LogBatchFault {
     /// There was no memory for it.
     NoMemory,
     /// It ends behind the last place.
@@ -22,14 +22,14 @@ pub enum BatchFault {
 
 /// A batch of the log: where its first record stands, how many it has, the epoch of who wrote it, and its bytes.
 #[derive(Drop)]
-pub struct Batch {
+pub struct LogBatch {
     base: u64,
     count: u32,
     epoch: u32,
     bytes: Shared<Bytes>,
 }
 
-impl Model for Batch {
+impl Model for LogBatch {
     ghost use Rattle.std.specs.Prelude.{◌+◌, ◌<◌, ◌^◌};
     ghost use Rattle.law_quorum.specs.Batches.{Batch as AnyBatch};
 
@@ -40,7 +40,7 @@ impl Model for Batch {
     ghost invariant = { λ s. s.base + s.count < 2 ^ 63 };
 }
 
-impl Batch {
+impl LogBatch {
     /// A batch whose bytes these are: `count` records from the place `base` on, written in `epoch`.
     pub fn new(
         alloc: Global,
@@ -48,21 +48,21 @@ impl Batch {
         count: u32,
         epoch: u32,
         bytes: Bytes,
-    ) -> Result<Batch, BatchFault>
+    ) -> Result<LogBatch, LogBatchFault>
         ensures { IsBatchOrFault base count result
             (record { base = base; count = count; epoch = epoch; bytes = bytes }) }
     {
         if base >= END_OF_PLACES || u64::from(count) >= END_OF_PLACES - base {
-            return Err(BatchFault::PastTheEnd);
+            return Err(LogBatchFault::PastTheEnd);
         }
         match Shared::new(alloc, bytes) {
-            Ok(bytes) => Ok(Batch {
+            Ok(bytes) => Ok(LogBatch {
                 base,
                 count,
                 epoch,
                 bytes,
             }),
-            Err(_) => Err(BatchFault::NoMemory),
+            Err(_) => Err(LogBatchFault::NoMemory),
         }
     }
 
@@ -103,9 +103,9 @@ impl Batch {
 }
 
 // Its bytes are shared.
-impl Copied for Batch {
-    fn copied(&self, _alloc: Global) -> Result<Batch, AllocError> {
-        Ok(Batch {
+impl Copied for LogBatch {
+    fn copied(&self, _alloc: Global) -> Result<LogBatch, AllocError> {
+        Ok(LogBatch {
             base: self.base,
             count: self.count,
             epoch: self.epoch,
@@ -152,5 +152,12 @@ impl StoredImage {
         ensures { result.now ≡ self.now.bytes }
     {
         self.bytes.get().as_slice()
+    }
+
+    /// How many bytes it has.
+    pub fn size(&self) -> usize
+        ensures { result ≡ length self.now.bytes }
+    {
+        self.bytes.get().len()
     }
 }

@@ -1,21 +1,21 @@
 //! Campaigns for the leadership, each with a token of its own.
 
 ghost use Rattle.std.specs.Prelude.{◌≡◌, None};
-ghost use Rattle.kr_link.specs.Clocks.{begun_with, next_campaign, settled, won_with};
+ghost use Rattle.kr_link.specs.Clocks.{begun_with, next_campaign, settled_with, won_with};
 
 /// A call that takes the leadership.
 #[derive(Clone, Copy, Debug, Drop, PartialEq, Eq)]
 pub struct Campaign {
-    /// Which call it is: the leader key that it makes names it.
+    /// The number of the call, which the leader key that it makes names.
     pub token: u64,
-    /// When its lease was asked for.
+    /// When its lease was asked for, in milliseconds.
     pub asked: u64,
 }
 
 /// The campaigns of a link: how many tokens were used, and the call that has no answer yet.
 #[derive(Clone, Copy, Debug, Drop, PartialEq, Eq)]
 pub struct Campaigns {
-    /// The next token; those below it were used.
+    /// The number of the next call; those below it were used.
     pub next: u64,
     /// The call whose answer is awaited.
     pub under_way: Option<Campaign>,
@@ -52,7 +52,7 @@ impl Campaigns {
     /// The call with this token was answered: that call, where its answer is awaited, from then on no more.
     pub fn settle(&mut self, token: u64) -> Option<Campaign>
         ensures won { result ≡ won_with self.old token }
-        ensures after { self.new ≡ settled self.old token }
+        ensures after { self.new ≡ settled_with self.old token }
     {
         match self.under_way {
             Some(campaign) => {

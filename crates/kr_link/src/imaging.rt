@@ -19,9 +19,9 @@ pub enum ImageAnswer {
 pub struct Imaging {
     /// One was asked for, of which nothing is known yet.
     pub is_asked: bool,
-    /// How far the daemon was fed then.
+    /// The place up to which the daemon was fed then.
     pub at: u64,
-    /// How far it was fed when one was last asked for in vain.
+    /// The place up to which it was fed when one was last asked for in vain.
     pub vain: u64,
 }
 

@@ -1,19 +1,19 @@
 //! A link by its clock: when it asks and renews, pings and feeds, and what of what comes its core is told.
 
-ghost use Rattle.std.specs.Prelude.{◌≡◌, ◌<◌, ◌*◌, ◌+◌, ◌^◌, OnOk, [], None};
-ghost use Rattle.kr_link.specs.Driven as driven;
-ghost use Rattle.kr_link.specs.Driven.{driven_of};
+ghost use Rattle.std.specs.Prelude.{◌≡◌, OnOk, length};
+ghost use Rattle.kr_link.specs.TimedLinks as timed;
+ghost use Rattle.kr_link.specs.TimedLinks.{timed_of};
 
 use crate::{
-    Action, BEAT, Batch, Campaigns, Frame, Held, ImageAnswer, Imaging, Lease, LinkCore, Outbox,
-    Ping, Pings, StoredImage,
+    Action, BEAT, Campaign, Campaigns, DaemonFrame, Held, ImageAnswer, Imaging, Lease, LinkCore,
+    LogBatch, Outbox, Ping, Pings, StoredImage,
 };
 use kr_base::NoMemory;
 use std::alloc::Global;
 
 /// What a link is started with.
 #[derive(Clone, Copy, Debug, Drop, PartialEq, Eq)]
-pub struct Settings {
+pub struct LinkSettings {
     /// The term of its leases in milliseconds.
     pub term: u64,
     /// An image is asked for each time the log has grown by so many places; 0: never.
@@ -22,8 +22,8 @@ pub struct Settings {
 
 /// What is seen of the log.
 #[derive(Clone, Copy, Debug, Drop, PartialEq, Eq)]
-pub struct Seen {
-    /// Its end.
+pub struct SeenLog {
+    /// The place at which it ends.
     pub end: u64,
     /// Somebody leads.
     pub is_led: bool,
@@ -33,7 +33,7 @@ pub struct Seen {
 
 /// What was asked of the store and has no answer yet; campaigns, appends, renewals and images are beside it.
 #[derive(Clone, Copy, Debug, Drop, PartialEq, Eq)]
-pub enum Question {
+pub enum StoreQuestion {
     /// Nothing.
     Nothing,
     /// What is seen of the log.
@@ -44,30 +44,30 @@ pub enum Question {
     Image,
 }
 
-impl Question {
+impl StoreQuestion {
     fn is_nothing(self) -> bool
-        ensures { result ≡ driven.is_idle self }
+        ensures { result ≡ timed.is_idle self }
     {
         match self {
-            Question::Nothing => true,
+            StoreQuestion::Nothing => true,
             _ => false,
         }
     }
 
     fn is_look(self) -> bool
-        ensures { result ≡ driven.is_look self }
+        ensures { result ≡ timed.is_look self }
     {
         match self {
-            Question::Look => true,
+            StoreQuestion::Look => true,
             _ => false,
         }
     }
 
     fn is_batches(self) -> bool
-        ensures { result ≡ driven.is_batches self }
+        ensures { result ≡ timed.is_batches self }
     {
         match self {
-            Question::Batches => true,
+            StoreQuestion::Batches => true,
             _ => false,
         }
     }
@@ -78,14 +78,14 @@ impl Question {
 #[derive(Drop)]
 pub struct Link {
     alloc: Global,
-    settings: Settings,
+    settings: LinkSettings,
     core: LinkCore,
     out: Outbox,
     pings: Option<Pings>,
-    question: Question,
+    question: StoreQuestion,
     campaigns: Campaigns,
     lease: Option<Lease>,
-    seen: Seen,
+    seen: SeenLog,
     imaging: Imaging,
     is_unanswered: bool,
     beat: u64,
@@ -93,8 +93,9 @@ pub struct Link {
 
 impl Link {
     /// A link of which no daemon wants anything yet.
-    pub fn new(alloc: Global, settings: Settings) -> Link
-        ensures { driven_of result ≡ driven.first_link settings }
+    #[tactic(auto, unfolding(crate::specs::TimedLinks::timed_of, crate::specs::TimedLinks::first_link))]
+    pub fn new(alloc: Global, settings: LinkSettings) -> Link
+        ensures { timed_of result ≡ timed.first_link settings }
     {
         Link {
             alloc,
@@ -102,10 +103,10 @@ impl Link {
             core: LinkCore::new(alloc),
             out: Outbox::new(alloc),
             pings: None,
-            question: Question::Nothing,
+            question: StoreQuestion::Nothing,
             campaigns: Campaigns::new(),
             lease: None,
-            seen: Seen {
+            seen: SeenLog {
                 end: 0,
                 is_led: false,
                 image: 0,
@@ -117,15 +118,17 @@ impl Link {
     }
 
     /// What is to be done next.
+    #[tactic(auto, unfolding(crate::specs::TimedLinks::timed_of, crate::specs::TimedLinks::with_taken))]
     pub fn take(&mut self) -> Option<Action>
-        ensures { driven_of self.old ≡ driven.with_first result (driven_of self.new) }
+        ensures { timed_of self.old ≡ timed.with_taken result (timed_of self.new) }
     {
         self.out.take()
     }
 
     // The leadership is over, or may be.
+    #[tactic(auto, unfolding(crate::specs::TimedLinks::timed_of, crate::specs::TimedLinks::gives_up))]
     fn end(&mut self) -> Result<(), NoMemory>
-        ensures { OnOk result (driven_of self.new ≡ driven.is_over (driven_of self.old)) }
+        ensures { OnOk result (timed_of self.new ≡ timed.gives_up (timed_of self.old)) }
     {
         self.core.end(&mut self.out)?;
         self.lease = None;
@@ -134,38 +137,50 @@ impl Link {
     }
 
     // The daemon's connection is closed.
-    fn let_go(&mut self) -> Result<(), NoMemory>
-        ensures { OnOk result (driven_of self.new ≡ driven.let_go (driven_of self.old)) }
+    #[tactic(auto, unfolding(crate::specs::TimedLinks::timed_of, crate::specs::TimedLinks::closes))]
+    fn close(&mut self) -> Result<(), NoMemory>
+        ensures { OnOk result (timed_of self.new ≡ timed.closes (timed_of self.old)) }
     {
-        self.end()?;
         self.out.put(Action::Close)?;
         self.pings = None;
         Ok(())
     }
 
+    #[tactic(auto, unfolding(crate::specs::TimedLinks::let_go))]
+    fn let_go(&mut self) -> Result<(), NoMemory>
+        ensures { OnOk result (timed_of self.new ≡ timed.let_go (timed_of self.old)) }
+    {
+        self.end()?;
+        self.close()?;
+        Ok(())
+    }
+
     // It looks at the log, unless it asks something already.
+    #[tactic(auto, unfolding(crate::specs::TimedLinks::timed_of, crate::specs::TimedLinks::looks))]
     fn look(&mut self) -> Result<(), NoMemory>
-        ensures { OnOk result (driven_of self.new ≡ driven.looks (driven_of self.old)) }
+        ensures { OnOk result (timed_of self.new ≡ timed.looks (timed_of self.old)) }
     {
         if !self.question.is_nothing() {
             return Ok(());
         }
         self.out.put(Action::Look)?;
-        self.question = Question::Look;
+        self.question = StoreQuestion::Look;
         Ok(())
     }
 
     // Pings the daemon.
-    fn ping(&mut self, now: u64) -> Result<(), NoMemory>
-        ensures { OnOk result (driven_of self.new ≡ driven.pinged (driven_of self.old) now) }
+    #[tactic(auto, unfolding(crate::specs::TimedLinks::timed_of, crate::specs::TimedLinks::pinged))]
+    fn send_ping(&mut self, now: u64) -> Result<(), NoMemory>
+        ensures { OnOk result (timed_of self.new ≡ timed.pinged (timed_of self.old) now) }
     {
         let led = self.core.role().epoch_led();
         match &mut self.pings {
             None => Ok(()),
             Some(pings) => {
-                self.out.put(Action::Send(Frame::Ping))?;
+                self.out.put(Action::Send(DaemonFrame::Ping))?;
+                let event = self.out.events();
                 pings.send(Ping {
-                    event: self.out.events(),
+                    event,
                     at: now,
                     led,
                 })?;
@@ -174,9 +189,10 @@ impl Link {
         }
     }
 
-    /// A daemon connected; the one before it isn't served any more.
-    pub fn join(&mut self, now: u64) -> Result<(), NoMemory>
-        ensures { OnOk result (driven_of self.new ≡ driven.joined (driven_of self.old) now) }
+    // Serves a daemon to which nothing was sent.
+    #[tactic(auto, unfolding(crate::specs::TimedLinks::timed_of, crate::specs::TimedLinks::serves))]
+    fn serve(&mut self) -> Result<(), NoMemory>
+        ensures { OnOk result (timed_of self.new ≡ timed.serves (timed_of self.old)) }
     {
         self.core.join(&mut self.out)?;
         self.out.begin();
@@ -184,241 +200,473 @@ impl Link {
         self.lease = None;
         self.is_unanswered = false;
         self.imaging = Imaging::new();
-        self.ping(now)
+        Ok(())
+    }
+
+    /// A daemon connected; the one before it isn't served any more.
+    #[tactic(auto, unfolding(crate::specs::TimedLinks::on_join))]
+    pub fn join(&mut self, now: u64) -> Result<(), NoMemory>
+        ensures { OnOk result (timed_of self.new ≡ timed.on_join (timed_of self.old) now) }
+    {
+        self.serve()?;
+        self.send_ping(now)?;
+        Ok(())
+    }
+
+    #[tactic(auto, unfolding(crate::specs::TimedLinks::timed_of, crate::specs::TimedLinks::serves_none))]
+    fn serve_none(&mut self)
+        ensures { timed_of self.new ≡ timed.serves_none (timed_of self.old) }
+    {
+        self.pings = None;
     }
 
     /// The daemon's connection ended.
+    #[tactic(auto, unfolding(crate::specs::TimedLinks::on_part))]
     pub fn part(&mut self) -> Result<(), NoMemory>
-        ensures { OnOk result (driven_of self.new ≡ driven.gone (driven_of self.old)) }
+        ensures { OnOk result (timed_of self.new ≡ timed.on_part (timed_of self.old)) }
     {
         self.end()?;
-        self.pings = None;
+        self.serve_none();
+        Ok(())
+    }
+
+    #[tactic(auto, unfolding(crate::specs::TimedLinks::timed_of, crate::specs::TimedLinks::is_stray))]
+    fn is_stray(&self, batch: &LogBatch) -> bool
+        ensures { result ≡ timed.is_stray (timed_of self.now) batch.now }
+    {
+        self.core.is_misplaced(batch)
+    }
+
+    #[tactic(auto, unfolding(crate::specs::TimedLinks::timed_of, crate::specs::TimedLinks::hears))]
+    fn hear(&mut self, batch: LogBatch) -> Result<(), NoMemory>
+        ensures { OnOk result (timed_of self.new ≡ timed.hears (timed_of self.old) batch) }
+    {
+        self.core.hear(batch, &mut self.out)?;
         Ok(())
     }
 
     /// The daemon wrote a batch. One whose batches don't meet is let go.
-    pub fn write(&mut self, batch: Batch) -> Result<(), NoMemory>
-        ensures { OnOk result (driven_of self.new ≡ driven.wrote (driven_of self.old) batch) }
+    #[tactic(auto, unfolding(crate::specs::TimedLinks::on_write))]
+    pub fn write(&mut self, batch: LogBatch) -> Result<(), NoMemory>
+        ensures { OnOk result (timed_of self.new ≡ timed.on_write (timed_of self.old) batch) }
     {
-        if self.core.is_misplaced(&batch) {
+        if self.is_stray(&batch) {
             return self.let_go();
         }
-        self.core.hear(batch, &mut self.out)
+        self.hear(batch)
+    }
+
+    #[tactic(auto, unfolding(crate::specs::TimedLinks::timed_of, crate::specs::TimedLinks::is_served))]
+    fn is_served(&self) -> bool
+        ensures { result ≡ timed.is_served (timed_of self.now) }
+    {
+        self.pings.is_some()
+    }
+
+    // Whether that answers the oldest ping, which is answered from then on.
+    #[tactic(auto, unfolding(crate::specs::TimedLinks::timed_of, crate::specs::TimedLinks::is_ping_answer, crate::specs::TimedLinks::with_ping_answer))]
+    fn take_ping_answer(&mut self, event: u64, led: Option<u32>, now: u64) -> bool
+        ensures is { result ≡ timed.is_ping_answer (timed_of self.old) event led }
+        ensures after { timed_of self.new
+            ≡ timed.with_ping_answer (timed_of self.old) event led now }
+    {
+        match &mut self.pings {
+            None => false,
+            Some(pings) => pings.answer(event, led, now),
+        }
     }
 
     /// The daemon refused an event because it didn't lead as that says; it leads `led`. Where that answers no ping, it is let go.
+    #[tactic(auto, unfolding(crate::specs::TimedLinks::on_refuse))]
     pub fn refuse(&mut self, event: u64, led: Option<u32>, now: u64) -> Result<(), NoMemory>
-        ensures { OnOk result (driven_of self.new ≡ driven.refused (driven_of self.old) event led now) }
+        ensures { OnOk result (timed_of self.new
+            ≡ timed.on_refuse (timed_of self.old) event led now) }
     {
-        let Some(pings) = &mut self.pings else {
+        if !self.is_served() {
             return Ok(());
-        };
-        if !pings.answer(event, led, now) {
+        }
+        if !self.take_ping_answer(event, led, now) {
             return self.let_go();
         }
         self.look()
     }
 
-    /// A campaign took effect. It is told its core once; a leadership that no call awaits is given back.
-    pub fn win(&mut self, token: u64, held: Held) -> Result<(), NoMemory>
-        ensures { OnOk result (driven_of self.new ≡ driven.won (driven_of self.old) token held) }
+    #[tactic(auto, unfolding(crate::specs::TimedLinks::timed_of, crate::specs::TimedLinks::campaign_of, crate::specs::TimedLinks::settles_campaign))]
+    fn settle_campaign(&mut self, token: u64) -> Option<Campaign>
+        ensures campaign { result ≡ timed.campaign_of (timed_of self.old) token }
+        ensures after { timed_of self.new ≡ timed.settles_campaign (timed_of self.old) token }
     {
-        let Some(campaign) = self.campaigns.settle(token) else {
-            return self.out.put(Action::Resign { made: held.made });
-        };
-        if self.core.role().is_held() {
-            return self.out.put(Action::Resign { made: held.made });
-        }
+        self.campaigns.settle(token)
+    }
+
+    #[tactic(auto, unfolding(crate::specs::TimedLinks::timed_of, crate::specs::TimedLinks::resigns))]
+    fn resign(&mut self, held: Held) -> Result<(), NoMemory>
+        ensures { OnOk result (timed_of self.new ≡ timed.resigns (timed_of self.old) held) }
+    {
+        self.out.put(Action::Resign { made: held.made })?;
+        Ok(())
+    }
+
+    // A leadership is held whose lease was asked for at this time.
+    #[tactic(auto, unfolding(crate::specs::TimedLinks::timed_of, crate::specs::TimedLinks::holds))]
+    fn hold(&mut self, held: Held, asked: u64) -> Result<(), NoMemory>
+        ensures { OnOk result (timed_of self.new ≡ timed.holds (timed_of self.old) held asked) }
+    {
         self.core.win(held, &mut self.out)?;
-        self.lease = Some(Lease::new(self.settings.term, campaign.asked));
+        self.lease = Some(Lease::new(self.settings.term, asked));
+        Ok(())
+    }
+
+    #[tactic(auto, unfolding(crate::specs::TimedLinks::timed_of, crate::specs::TimedLinks::holds_any))]
+    fn holds_any(&self) -> bool
+        ensures { result ≡ timed.holds_any (timed_of self.now) }
+    {
+        self.core.role().has_leadership()
+    }
+
+    // A leadership that no call awaits is given back, and one beside another that is held.
+    #[tactic(auto, unfolding(crate::specs::TimedLinks::admits))]
+    fn admit(&mut self, held: Held, campaign: Option<Campaign>) -> Result<(), NoMemory>
+        ensures { OnOk result (timed_of self.new ≡ timed.admits (timed_of self.old) held campaign) }
+    {
+        match campaign {
+            None => self.resign(held),
+            Some(campaign) => {
+                if self.holds_any() {
+                    return self.resign(held);
+                }
+                self.hold(held, campaign.asked)
+            }
+        }
+    }
+
+    /// A campaign took effect. Its core is told so once; a leadership that no call awaits is given back.
+    #[tactic(auto, unfolding(crate::specs::TimedLinks::on_win))]
+    pub fn win(&mut self, token: u64, held: Held) -> Result<(), NoMemory>
+        ensures { OnOk result (timed_of self.new ≡ timed.on_win (timed_of self.old) token held) }
+    {
+        let campaign = self.settle_campaign(token);
+        self.admit(held, campaign)?;
         Ok(())
     }
 
     /// A campaign took no effect, or stays without an answer.
     pub fn lose(&mut self, token: u64)
-        ensures { driven_of self.new ≡ driven.not_won (driven_of self.old) token }
+        ensures { timed_of self.new ≡ timed.settles_campaign (timed_of self.old) token }
     {
-        let _ = self.campaigns.settle(token);
+        let _ = self.settle_campaign(token);
     }
 
-    /// The append for the leadership whose key was made at a revision, from a place on, stands.
-    pub fn stand(&mut self, made: u64, base: u64) -> Result<(), NoMemory>
-        ensures { OnOk result (driven_of self.new ≡ driven.stood (driven_of self.old) made base) }
+    #[tactic(auto, unfolding(crate::specs::TimedLinks::timed_of, crate::specs::TimedLinks::is_awaited))]
+    fn is_awaited(&self, made: u64, base: u64) -> bool
+        ensures { result ≡ timed.is_awaited (timed_of self.now) made base }
     {
-        if !self.core.role().is_of(made, base) {
-            return Ok(());
-        }
+        self.core.role().awaits_append(made, base)
+    }
+
+    #[tactic(auto, unfolding(crate::specs::TimedLinks::timed_of, crate::specs::TimedLinks::commits))]
+    fn commit(&mut self, made: u64, base: u64) -> Result<(), NoMemory>
+        ensures { OnOk result (timed_of self.new ≡ timed.commits (timed_of self.old) made base) }
+    {
         self.core.stand(made, base, &mut self.out)?;
         self.is_unanswered = false;
         Ok(())
     }
 
-    /// That append doesn't stand, and never will, or whether it does will never be known.
-    pub fn fail(&mut self, made: u64, base: u64) -> Result<(), NoMemory>
-        ensures { OnOk result (driven_of self.new ≡ driven.append_refused (driven_of self.old) made base) }
+    /// The append for the leadership whose key was made at a revision, from a place on, stands.
+    #[tactic(auto, unfolding(crate::specs::TimedLinks::on_stand))]
+    pub fn stand(&mut self, made: u64, base: u64) -> Result<(), NoMemory>
+        ensures { OnOk result (timed_of self.new ≡ timed.on_stand (timed_of self.old) made base) }
     {
-        if !self.core.role().is_of(made, base) {
+        if !self.is_awaited(made, base) {
+            return Ok(());
+        }
+        self.commit(made, base)
+    }
+
+    /// That append doesn't stand, and never will, or whether it does will never be known.
+    #[tactic(auto, unfolding(crate::specs::TimedLinks::on_fail))]
+    pub fn fail(&mut self, made: u64, base: u64) -> Result<(), NoMemory>
+        ensures { OnOk result (timed_of self.new ≡ timed.on_fail (timed_of self.old) made base) }
+    {
+        if !self.is_awaited(made, base) {
             return Ok(());
         }
         self.end()
     }
 
     /// That append has no answer yet: it is called for again when it is later.
+    #[tactic(auto, unfolding(crate::specs::TimedLinks::timed_of, crate::specs::TimedLinks::on_miss))]
     pub fn miss(&mut self, made: u64, base: u64)
-        ensures { driven_of self.new ≡ driven.append_unanswered (driven_of self.old) made base }
+        ensures { timed_of self.new ≡ timed.on_miss (timed_of self.old) made base }
     {
-        if self.core.role().is_of(made, base) {
-            self.is_unanswered = true;
-        }
+        let is_awaited = self.core.role().awaits_append(made, base);
+        self.is_unanswered = self.is_unanswered || is_awaited;
     }
 
     // Campaigns, where a token is left.
+    #[tactic(auto, unfolding(crate::specs::TimedLinks::timed_of, crate::specs::TimedLinks::campaigning))]
     fn campaign(&mut self, now: u64) -> Result<(), NoMemory>
-        ensures { OnOk result (driven_of self.new ≡ driven.campaigning (driven_of self.old) now) }
+        ensures { OnOk result (timed_of self.new ≡ timed.campaigning (timed_of self.old) now) }
     {
         match self.campaigns.begin(now) {
             None => Ok(()),
-            Some(campaign) => self.out.put(Action::Campaign {
-                token: campaign.token,
-            }),
+            Some(campaign) => {
+                self.out.put(Action::Campaign {
+                    token: campaign.token,
+                })?;
+                Ok(())
+            }
         }
     }
 
     // Nobody leads, no campaign is under way, and the daemon answers.
+    #[tactic(auto, unfolding(crate::specs::TimedLinks::timed_of, crate::specs::TimedLinks::may_campaign))]
     fn may_campaign(&self, now: u64) -> bool
-        ensures { result ≡ driven.may_campaign (driven_of self.now) now }
+        ensures { result ≡ timed.may_campaign (timed_of self.now) now }
     {
-        !self.core.role().is_held()
+        !self.core.role().has_leadership()
             && !self.seen.is_led
             && self.campaigns.under_way.is_none()
             && self.is_fresh(now)
     }
 
-    // Reads on what the daemon wasn't fed; at the end of the log it campaigns.
-    fn follow(&mut self, now: u64) -> Result<(), NoMemory>
-        ensures { OnOk result (driven_of self.new ≡ driven.follows (driven_of self.old) now) }
+    #[tactic(auto, unfolding(crate::specs::TimedLinks::stands_for))]
+    fn stand_for(&mut self, now: u64) -> Result<(), NoMemory>
+        ensures { OnOk result (timed_of self.new ≡ timed.stands_for (timed_of self.old) now) }
     {
-        if self.core.role().is_leading() || self.is_ahead() {
+        if !self.may_campaign(now) {
             return Ok(());
         }
-        let fed = self.core.fed();
-        if fed < self.seen.image {
-            self.question = Question::Image;
-            return self.out.put(Action::ReadImage);
-        }
-        if fed < self.seen.end {
-            self.question = Question::Batches;
-            return self.out.put(Action::Read {
-                from: fed,
-                to: self.seen.end,
-            });
-        }
-        if self.may_campaign(now) {
-            return self.campaign(now);
-        }
+        self.campaign(now)
+    }
+
+    // It doesn't lead, and its daemon answers.
+    #[tactic(auto, unfolding(crate::specs::TimedLinks::timed_of, crate::specs::TimedLinks::is_follower, crate::specs::TimedLinks::is_ahead_now))]
+    fn is_follower(&self) -> bool
+        ensures { result ≡ timed.is_follower (timed_of self.now) }
+    {
+        !(self.core.role().is_leading() || self.is_far_ahead())
+    }
+
+    #[tactic(auto, unfolding(crate::specs::TimedLinks::timed_of, crate::specs::TimedLinks::is_below_image))]
+    fn is_below_image(&self) -> bool
+        ensures { result ≡ timed.is_below_image (timed_of self.now) }
+    {
+        self.core.fed_end() < self.seen.image
+    }
+
+    #[tactic(auto, unfolding(crate::specs::TimedLinks::timed_of, crate::specs::TimedLinks::is_below_end))]
+    fn is_below_end(&self) -> bool
+        ensures { result ≡ timed.is_below_end (timed_of self.now) }
+    {
+        self.core.fed_end() < self.seen.end
+    }
+
+    #[tactic(auto, unfolding(crate::specs::TimedLinks::timed_of, crate::specs::TimedLinks::reads_image))]
+    fn read_image(&mut self) -> Result<(), NoMemory>
+        ensures { OnOk result (timed_of self.new ≡ timed.reads_image (timed_of self.old)) }
+    {
+        self.out.put(Action::ReadImage)?;
+        self.question = StoreQuestion::Image;
         Ok(())
     }
 
-    // Asks the daemon for an image, where it is far enough past the last one.
-    fn consider(&mut self) -> Result<(), NoMemory>
-        ensures { OnOk result (driven_of self.new ≡ driven.considers (driven_of self.old)) }
+    #[tactic(auto, unfolding(crate::specs::TimedLinks::timed_of, crate::specs::TimedLinks::reads_batches))]
+    fn read_batches(&mut self) -> Result<(), NoMemory>
+        ensures { OnOk result (timed_of self.new ≡ timed.reads_batches (timed_of self.old)) }
     {
-        let fed = self.core.fed();
-        if self.pings.is_none() || !self.imaging.is_wanted(fed, self.seen.image, self.places()) {
+        let from = self.core.fed_end();
+        let to = self.seen.end;
+        self.out.put(Action::Read { from, to })?;
+        self.question = StoreQuestion::Batches;
+        Ok(())
+    }
+
+    // Reads on what the daemon wasn't fed; at the end of the log it campaigns.
+    #[tactic(auto, unfolding(crate::specs::TimedLinks::follows))]
+    fn follow(&mut self, now: u64) -> Result<(), NoMemory>
+        ensures { OnOk result (timed_of self.new ≡ timed.follows (timed_of self.old) now) }
+    {
+        if !self.is_follower() {
             return Ok(());
         }
-        self.imaging.ask(fed);
-        self.out.put(Action::AskImage)
+        if self.is_below_image() {
+            return self.read_image();
+        }
+        if self.is_below_end() {
+            return self.read_batches();
+        }
+        self.stand_for(now)
+    }
+
+    // It is far enough past the last image to ask for one.
+    #[tactic(auto, unfolding(crate::specs::TimedLinks::timed_of, crate::specs::TimedLinks::wants_image))]
+    fn wants_image(&self) -> bool
+        ensures { result ≡ timed.wants_image (timed_of self.now) }
+    {
+        self.pings.is_some()
+            && self
+                .imaging
+                .is_wanted(self.core.fed_end(), self.seen.image, self.places())
+    }
+
+    #[tactic(auto, unfolding(crate::specs::TimedLinks::timed_of, crate::specs::TimedLinks::asks_image))]
+    fn ask_image(&mut self) -> Result<(), NoMemory>
+        ensures { OnOk result (timed_of self.new ≡ timed.asks_image (timed_of self.old)) }
+    {
+        self.imaging.ask(self.core.fed_end());
+        self.out.put(Action::AskImage)?;
+        Ok(())
+    }
+
+    // Asks the daemon for an image, where that is wanted.
+    #[tactic(auto, unfolding(crate::specs::TimedLinks::considers))]
+    fn consider(&mut self) -> Result<(), NoMemory>
+        ensures { OnOk result (timed_of self.new ≡ timed.considers (timed_of self.old)) }
+    {
+        if !self.wants_image() {
+            return Ok(());
+        }
+        self.ask_image()
+    }
+
+    #[tactic(auto, unfolding(crate::specs::TimedLinks::timed_of, crate::specs::TimedLinks::is_looking))]
+    fn is_looking(&self) -> bool
+        ensures { result ≡ timed.is_looking (timed_of self.now) }
+    {
+        self.question.is_look()
+    }
+
+    #[tactic(auto, unfolding(crate::specs::TimedLinks::timed_of, crate::specs::TimedLinks::notes))]
+    fn note(&mut self, seen: SeenLog)
+        ensures { timed_of self.new ≡ timed.notes (timed_of self.old) seen }
+    {
+        self.question = StoreQuestion::Nothing;
+        self.seen = seen;
     }
 
     /// This was seen of the log.
-    pub fn see(&mut self, seen: Seen, now: u64) -> Result<(), NoMemory>
-        ensures { OnOk result (driven_of self.new ≡ driven.looked (driven_of self.old) seen now) }
+    #[tactic(auto, unfolding(crate::specs::TimedLinks::on_see))]
+    pub fn see(&mut self, seen: SeenLog, now: u64) -> Result<(), NoMemory>
+        ensures { OnOk result (timed_of self.new ≡ timed.on_see (timed_of self.old) seen now) }
     {
-        if !self.question.is_look() {
+        if !self.is_looking() {
             return Ok(());
         }
-        self.question = Question::Nothing;
-        self.seen = seen;
+        self.note(seen);
         self.consider()?;
-        self.follow(now)
+        self.follow(now)?;
+        Ok(())
+    }
+
+    // So many bytes were fed: whether another ping is due.
+    #[tactic(auto, unfolding(crate::specs::TimedLinks::timed_of, crate::specs::TimedLinks::is_ping_due, crate::specs::TimedLinks::with_bytes))]
+    fn count_bytes(&mut self, bytes: u64) -> bool
+        ensures due { result ≡ timed.is_ping_due (timed_of self.old) bytes }
+        ensures after { timed_of self.new ≡ timed.with_bytes (timed_of self.old) bytes }
+    {
+        match &mut self.pings {
+            None => false,
+            Some(pings) => pings.feed(bytes),
+        }
     }
 
     // So many bytes were fed: where another ping is due, it is sent.
+    #[tactic(auto, unfolding(crate::specs::TimedLinks::counts))]
     fn count(&mut self, bytes: u64, now: u64) -> Result<(), NoMemory>
-        ensures { OnOk result (driven_of self.new ≡ driven.counts (driven_of self.old) bytes now) }
+        ensures { OnOk result (timed_of self.new ≡ timed.counts (timed_of self.old) bytes now) }
     {
-        let is_due = match &mut self.pings {
-            None => false,
-            Some(pings) => pings.feed(bytes),
-        };
-        if is_due {
-            return self.ping(now);
+        if !self.count_bytes(bytes) {
+            return Ok(());
         }
+        self.send_ping(now)
+    }
+
+    #[tactic(auto, unfolding(crate::specs::TimedLinks::timed_of, crate::specs::TimedLinks::is_reading, crate::specs::TimedLinks::is_ahead_now))]
+    fn is_reading(&self) -> bool
+        ensures { result ≡ timed.is_reading (timed_of self.now) }
+    {
+        self.question.is_batches() && !self.is_far_ahead()
+    }
+
+    #[tactic(auto, unfolding(crate::specs::TimedLinks::timed_of, crate::specs::TimedLinks::feeds))]
+    fn feed(&mut self, batch: LogBatch) -> Result<(), NoMemory>
+        ensures { OnOk result (timed_of self.new ≡ timed.feeds (timed_of self.old) batch) }
+    {
+        self.core.find(batch, &mut self.out)?;
         Ok(())
     }
 
     /// A batch was read. None is fed to a daemon that doesn't answer.
-    pub fn find(&mut self, batch: Batch, now: u64) -> Result<(), NoMemory>
-        ensures { OnOk result (driven_of self.new ≡ driven.found (driven_of self.old) batch now) }
+    #[tactic(auto, unfolding(crate::specs::TimedLinks::on_find))]
+    pub fn find(&mut self, batch: LogBatch, now: u64) -> Result<(), NoMemory>
+        ensures { OnOk result (timed_of self.new ≡ timed.on_find (timed_of self.old) batch now) }
     {
-        if !self.question.is_batches() || self.is_ahead() {
+        if !self.is_reading() {
             return Ok(());
         }
-        let bytes = batch.size();
-        self.core.find(batch, &mut self.out)?;
-        self.count(bytes, now)
+        let bytes = batch.size() as u64;
+        self.feed(batch)?;
+        self.count(bytes, now)?;
+        Ok(())
+    }
+
+    #[tactic(auto, unfolding(crate::specs::TimedLinks::timed_of, crate::specs::TimedLinks::loads))]
+    fn load(&mut self, image: StoredImage) -> Result<(), NoMemory>
+        ensures { OnOk result (timed_of self.new ≡ timed.loads (timed_of self.old) image) }
+    {
+        self.core.find_image(image, &mut self.out)?;
+        Ok(())
     }
 
     /// The image was read.
+    #[tactic(auto, unfolding(crate::specs::TimedLinks::on_find_image, crate::specs::TimedLinks::is_ahead_now))]
     pub fn find_image(&mut self, image: StoredImage, now: u64) -> Result<(), NoMemory>
-        ensures { OnOk result (driven_of self.new ≡ driven.found_image (driven_of self.old) image now) }
+        ensures { OnOk result (timed_of self.new
+            ≡ timed.on_find_image (timed_of self.old) image now) }
     {
-        if self.is_ahead() {
+        if self.is_far_ahead() {
             return Ok(());
         }
-        let bytes = image.size();
-        self.core.find_image(image, &mut self.out)?;
-        self.count(bytes, now)
+        let bytes = image.size() as u64;
+        self.load(image)?;
+        self.count(bytes, now)?;
+        Ok(())
+    }
+
+    #[tactic(auto, unfolding(crate::specs::TimedLinks::timed_of, crate::specs::TimedLinks::done_asking))]
+    fn stop_asking(&mut self)
+        ensures { timed_of self.new ≡ timed.done_asking (timed_of self.old) }
+    {
+        self.question = StoreQuestion::Nothing;
     }
 
     /// What was asked has no further answer; it is known, or isn't, why none.
+    #[tactic(auto, unfolding(crate::specs::TimedLinks::on_finish))]
     pub fn finish(&mut self, is_known: bool) -> Result<(), NoMemory>
-        ensures { OnOk result (driven_of self.new ≡ driven.answered_all (driven_of self.old) is_known) }
+        ensures { OnOk result (timed_of self.new ≡ timed.on_finish (timed_of self.old) is_known) }
     {
-        self.question = Question::Nothing;
-        if is_known && !self.is_ahead() {
+        self.stop_asking();
+        if is_known && !self.is_far_ahead() {
             return self.look();
         }
         Ok(())
     }
 
-    /// It is later.
-    pub fn wake(&mut self, now: u64) -> Result<(), NoMemory>
-        ensures { OnOk result (driven_of self.new ≡ driven.woke (driven_of self.old) now) }
-    {
-        self.end_when_due(now)?;
-        self.call_again()?;
-        self.renew(now)?;
-        if self.is_beat(now) {
-            self.beat = now.saturating_add(BEAT);
-            return self.beat(now);
-        }
-        Ok(())
-    }
-
     // The daemon is behind with its answers, or there is none.
-    fn is_ahead(&self) -> bool
-        ensures { result ≡ driven.is_ahead_of self.now.pings }
+    #[tactic(auto, unfolding(crate::specs::TimedLinks::timed_of, crate::specs::TimedLinks::is_ahead_now))]
+    fn is_far_ahead(&self) -> bool
+        ensures { result ≡ timed.is_ahead_now (timed_of self.now) }
     {
         match &self.pings {
             None => true,
-            Some(pings) => pings.is_ahead(),
+            Some(pings) => pings.is_far_ahead(),
         }
     }
 
     fn is_fresh(&self, now: u64) -> bool
-        ensures { result ≡ driven.is_fresh_of self.now.pings now }
+        ensures { result ≡ timed.is_fresh_of self.now.pings now }
     {
         match &self.pings {
             None => false,
@@ -427,7 +675,7 @@ impl Link {
     }
 
     fn silence(&self, now: u64) -> u64
-        ensures { result ≡ driven.silence_of self.now.pings now }
+        ensures { result ≡ timed.silence_of self.now.pings now }
     {
         match &self.pings {
             None => 0,
@@ -436,8 +684,9 @@ impl Link {
     }
 
     // Who leads asks for an image only where nobody else gave one.
+    #[tactic(auto, unfolding(crate::specs::TimedLinks::timed_of, crate::specs::TimedLinks::places_of))]
     fn places(&self) -> u64
-        ensures { result ≡ driven.places_of (driven_of self.now) }
+        ensures { result ≡ timed.places_of (timed_of self.now) }
     {
         if self.core.role().is_leading() {
             return self.settings.images.saturating_mul(2);
@@ -445,16 +694,8 @@ impl Link {
         self.settings.images
     }
 
-    // The lease may have run out, or the daemon that leads doesn't answer for as long as one.
-    fn is_due_to_end(&self, now: u64) -> bool
-        ensures { result ≡ driven.is_due_to_end (driven_of self.now) now }
-    {
-        self.is_lapsed(now)
-            || self.core.role().is_leading() && self.silence(now) > self.settings.term
-    }
-
     fn is_lapsed(&self, now: u64) -> bool
-        ensures { result ≡ driven.is_lapsed_of self.now.lease now }
+        ensures { result ≡ timed.is_lapsed_of self.now.lease now }
     {
         match &self.lease {
             None => false,
@@ -462,8 +703,18 @@ impl Link {
         }
     }
 
+    // The lease may have run out, or the daemon that leads doesn't answer for as long as one.
+    #[tactic(auto, unfolding(crate::specs::TimedLinks::timed_of, crate::specs::TimedLinks::is_due_to_end))]
+    fn is_due_to_end(&self, now: u64) -> bool
+        ensures { result ≡ timed.is_due_to_end (timed_of self.now) now }
+    {
+        self.is_lapsed(now)
+            || self.core.role().is_leading() && self.silence(now) > self.settings.term
+    }
+
+    #[tactic(auto, unfolding(crate::specs::TimedLinks::ends_when_due))]
     fn end_when_due(&mut self, now: u64) -> Result<(), NoMemory>
-        ensures { OnOk result (driven_of self.new ≡ driven.ended (driven_of self.old) now) }
+        ensures { OnOk result (timed_of self.new ≡ timed.ends_when_due (timed_of self.old) now) }
     {
         if !self.is_due_to_end(now) {
             return Ok(());
@@ -472,97 +723,192 @@ impl Link {
     }
 
     // Calls again for an append that has no answer: it does no harm.
+    #[tactic(auto, unfolding(crate::specs::TimedLinks::timed_of, crate::specs::TimedLinks::calls_again, crate::specs::TimedLinks::asks_again))]
     fn call_again(&mut self) -> Result<(), NoMemory>
-        ensures { OnOk result (driven_of self.new ≡ driven.calls_again (driven_of self.old)) }
+        ensures { OnOk result (timed_of self.new ≡ timed.calls_again (timed_of self.old)) }
     {
         if !self.is_unanswered {
             return Ok(());
         }
+        self.core.ask_again(&mut self.out)?;
         self.is_unanswered = false;
-        self.core.ask_again(&mut self.out)
+        Ok(())
     }
 
-    // Asks for the lease to be renewed, a quarter of its term after the last time.
-    fn renew(&mut self, now: u64) -> Result<(), NoMemory>
-        ensures { OnOk result (driven_of self.new ≡ driven.renews (driven_of self.old) now) }
+    // A quarter of the lease's term after the last time it is to be renewed, which is tried from then on.
+    #[tactic(auto, unfolding(crate::specs::TimedLinks::timed_of, crate::specs::TimedLinks::is_to_renew, crate::specs::TimedLinks::tries))]
+    fn is_to_renew(&mut self, now: u64) -> bool
+        ensures due { result ≡ timed.is_to_renew (timed_of self.old) now }
+        ensures after { timed_of self.new ≡ timed.tries (timed_of self.old) now }
     {
-        let Some(held) = self.core.role().held() else {
-            return Ok(());
-        };
         match &mut self.lease {
+            None => false,
+            Some(lease) => lease.is_to_renew(now),
+        }
+    }
+
+    #[tactic(auto, unfolding(crate::specs::TimedLinks::timed_of, crate::specs::TimedLinks::asks_renewal))]
+    fn ask_renewal(&mut self) -> Result<(), NoMemory>
+        ensures { OnOk result (timed_of self.new ≡ timed.asks_renewal (timed_of self.old)) }
+    {
+        match self.core.role().made() {
             None => Ok(()),
-            Some(lease) => {
-                if !lease.is_to_renew(now) {
-                    return Ok(());
-                }
-                self.out.put(Action::Renew { made: held.made })
+            Some(made) => {
+                self.out.put(Action::Renew { made })?;
+                Ok(())
             }
         }
     }
 
-    fn is_beat(&self, now: u64) -> bool
-        ensures { result ≡ driven.is_beat (driven_of self.now) now }
+    #[tactic(auto, unfolding(crate::specs::TimedLinks::renews))]
+    fn renew(&mut self, now: u64) -> Result<(), NoMemory>
+        ensures { OnOk result (timed_of self.new ≡ timed.renews (timed_of self.old) now) }
     {
-        self.pings.is_some() && self.beat <= now
+        if !self.is_to_renew(now) {
+            return Ok(());
+        }
+        self.ask_renewal()
     }
 
+    #[tactic(auto, unfolding(crate::specs::TimedLinks::timed_of, crate::specs::TimedLinks::ticks))]
     fn tick(&mut self) -> Result<(), NoMemory>
-        ensures { OnOk result (driven_of self.new ≡ driven.ticks (driven_of self.old)) }
+        ensures { OnOk result (timed_of self.new ≡ timed.ticks (timed_of self.old)) }
     {
         if !self.core.role().is_leading() {
             return Ok(());
         }
-        self.out.put(Action::Send(Frame::Tick))
+        self.out.put(Action::Send(DaemonFrame::Tick))?;
+        Ok(())
     }
 
-    // A daemon that doesn't answer for four terms is let go; else who leads is told the time, each is pinged, and the log looked at.
-    fn beat(&mut self, now: u64) -> Result<(), NoMemory>
-        ensures { OnOk result (driven_of self.new ≡ driven.beats (driven_of self.old) now) }
+    // The daemon doesn't answer for four terms.
+    #[tactic(auto, unfolding(crate::specs::TimedLinks::timed_of, crate::specs::TimedLinks::is_silent))]
+    fn is_silent(&self, now: u64) -> bool
+        ensures { result ≡ timed.is_silent (timed_of self.now) now }
     {
-        if self.silence(now) > self.settings.term.saturating_mul(4) {
+        self.silence(now) > self.settings.term.saturating_mul(4)
+    }
+
+    // A daemon that doesn't answer is let go; else who leads is told the time, each is pinged, and the log looked at.
+    #[tactic(auto, unfolding(crate::specs::TimedLinks::beats))]
+    fn beat(&mut self, now: u64) -> Result<(), NoMemory>
+        ensures { OnOk result (timed_of self.new ≡ timed.beats (timed_of self.old) now) }
+    {
+        if self.is_silent(now) {
             return self.let_go();
         }
         self.tick()?;
-        self.ping(now)?;
-        self.look()
+        self.send_ping(now)?;
+        self.look()?;
+        Ok(())
     }
 
-    /// The renewal under way of the lease of this leadership was granted, or stays without an answer.
-    pub fn renewed(&mut self, made: u64, is_granted: bool)
-        ensures { driven_of self.new ≡ driven.renewed (driven_of self.old) made is_granted }
+    #[tactic(auto, unfolding(crate::specs::TimedLinks::timed_of, crate::specs::TimedLinks::is_beat))]
+    fn is_beat(&self, now: u64) -> bool
+        ensures { result ≡ timed.is_beat (timed_of self.now) now }
     {
-        if !self.core.role().is_made_at(made) {
-            return;
+        self.pings.is_some() && self.beat <= now
+    }
+
+    #[tactic(auto, unfolding(crate::specs::TimedLinks::timed_of, crate::specs::TimedLinks::with_beat))]
+    fn set_beat(&mut self, now: u64)
+        ensures { timed_of self.new ≡ timed.with_beat (timed_of self.old) now }
+    {
+        self.beat = now.saturating_add(BEAT);
+    }
+
+    #[tactic(auto, unfolding(crate::specs::TimedLinks::beats_when_due))]
+    fn beat_when_due(&mut self, now: u64) -> Result<(), NoMemory>
+        ensures { OnOk result (timed_of self.new ≡ timed.beats_when_due (timed_of self.old) now) }
+    {
+        if !self.is_beat(now) {
+            return Ok(());
         }
+        self.set_beat(now);
+        self.beat(now)?;
+        Ok(())
+    }
+
+    /// It is later.
+    #[tactic(auto, unfolding(crate::specs::TimedLinks::on_wake))]
+    pub fn wake(&mut self, now: u64) -> Result<(), NoMemory>
+        ensures { OnOk result (timed_of self.new ≡ timed.on_wake (timed_of self.old) now) }
+    {
+        self.end_when_due(now)?;
+        self.call_again()?;
+        self.renew(now)?;
+        self.beat_when_due(now)?;
+        Ok(())
+    }
+
+    #[tactic(auto, unfolding(crate::specs::TimedLinks::timed_of, crate::specs::TimedLinks::is_held_at))]
+    fn is_held_at(&self, made: u64) -> bool
+        ensures { result ≡ timed.is_held_at (timed_of self.now) made }
+    {
+        self.core.role().is_made_at(made)
+    }
+
+    #[tactic(auto, unfolding(crate::specs::TimedLinks::timed_of, crate::specs::TimedLinks::grants))]
+    fn grant(&mut self, is_granted: bool)
+        ensures { timed_of self.new ≡ timed.grants (timed_of self.old) is_granted }
+    {
         if let Some(lease) = &mut self.lease {
             lease.answer(is_granted);
         }
     }
 
-    /// The lease of this leadership isn't there any more.
-    pub fn lapse(&mut self, made: u64) -> Result<(), NoMemory>
-        ensures { OnOk result (driven_of self.new ≡ driven.lapsed (driven_of self.old) made) }
+    /// The renewal under way of the lease of this leadership was granted, or stays without an answer.
+    #[tactic(auto, unfolding(crate::specs::TimedLinks::on_renewal))]
+    pub fn answer_renewal(&mut self, made: u64, is_granted: bool)
+        ensures { timed_of self.new ≡ timed.on_renewal (timed_of self.old) made is_granted }
     {
-        if !self.core.role().is_made_at(made) {
+        if self.is_held_at(made) {
+            self.grant(is_granted);
+        }
+    }
+
+    /// The lease of this leadership isn't there any more.
+    #[tactic(auto, unfolding(crate::specs::TimedLinks::on_lapse))]
+    pub fn lapse(&mut self, made: u64) -> Result<(), NoMemory>
+        ensures { OnOk result (timed_of self.new ≡ timed.on_lapse (timed_of self.old) made) }
+    {
+        if !self.is_held_at(made) {
             return Ok(());
         }
         self.end()
     }
 
-    /// The daemon gave an image.
-    pub fn give(&mut self, image: StoredImage) -> Result<(), NoMemory>
-        ensures { OnOk result (driven_of self.new ≡ driven.gave (driven_of self.old) image) }
+    #[tactic(auto, unfolding(crate::specs::TimedLinks::timed_of, crate::specs::TimedLinks::is_later_image))]
+    fn is_later_image(&self, image: &StoredImage) -> bool
+        ensures { result ≡ timed.is_later_image (timed_of self.now) image.now }
     {
-        if image.offset() <= self.seen.image {
-            self.imaging.settle(ImageAnswer::Vain);
+        self.seen.image < image.offset()
+    }
+
+    #[tactic(auto, unfolding(crate::specs::TimedLinks::timed_of, crate::specs::TimedLinks::keeps_image))]
+    fn keep_image(&mut self, image: StoredImage) -> Result<(), NoMemory>
+        ensures { OnOk result (timed_of self.new ≡ timed.keeps_image (timed_of self.old) image) }
+    {
+        self.core.give(self.seen.image, image, &mut self.out)?;
+        Ok(())
+    }
+
+    /// The daemon gave an image.
+    #[tactic(auto, unfolding(crate::specs::TimedLinks::on_give))]
+    pub fn give(&mut self, image: StoredImage) -> Result<(), NoMemory>
+        ensures { OnOk result (timed_of self.new ≡ timed.on_give (timed_of self.old) image) }
+    {
+        if !self.is_later_image(&image) {
+            self.settle_image(ImageAnswer::Vain);
             return Ok(());
         }
-        self.core.give(self.seen.image, image, &mut self.out)
+        self.keep_image(image)
     }
 
     /// What came of that image.
+    #[tactic(auto, unfolding(crate::specs::TimedLinks::timed_of, crate::specs::TimedLinks::on_settle_image))]
     pub fn settle_image(&mut self, answer: ImageAnswer)
-        ensures { driven_of self.new ≡ driven.image_answered (driven_of self.old) answer }
+        ensures { timed_of self.new ≡ timed.on_settle_image (timed_of self.old) answer }
     {
         self.imaging.settle(answer);
     }

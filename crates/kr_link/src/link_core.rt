@@ -4,10 +4,10 @@ ghost use Rattle.std.specs.Prelude.{◌≡◌, OnOk, nat_lt};
 ghost use Rattle.law_core.specs.Core as laws;
 ghost use Rattle.law_core.specs.Core.{core_step, first_core};
 ghost use Rattle.kr_link.specs.Cores.{core_of};
-ghost use Rattle.kr_link.specs.Roles.{held_of, is_ahead, is_next, role_of};
-ghost use Rattle.kr_link.specs.Outgoing.{put_all};
+ghost use Rattle.kr_link.specs.Roles.{held_of, is_batch_next, is_image_next, is_misplaced, law_role};
+ghost use Rattle.kr_link.specs.Outgoing.{put_again, put_all};
 
-use crate::{Action, Batch, Frame, Held, Outbox, Role, StoredImage};
+use crate::{Action, DaemonFrame, Held, LinkRole, LogBatch, Outbox, StoredImage};
 use kr_base::NoMemory;
 use std::alloc::Global;
 
@@ -18,7 +18,7 @@ pub struct LinkCore {
     alloc: Global,
     // The place up to which the daemon was handed the log.
     fed: u64,
-    role: Role,
+    role: LinkRole,
 }
 
 // It stands for more of the log than one of the place `before`.
@@ -36,19 +36,19 @@ impl LinkCore {
         LinkCore {
             alloc,
             fed: 0,
-            role: Role::Standby,
+            role: LinkRole::Standby,
         }
     }
 
     /// The place up to which the daemon was handed the log.
-    pub fn fed(&self) -> u64
+    pub fn fed_end(&self) -> u64
         ensures { result ≡ self.now.fed }
     {
         self.fed
     }
 
     /// What it holds of the leadership.
-    pub fn role(&self) -> &Role
+    pub fn role(&self) -> &LinkRole
         ensures { result.now ≡ self.now.role }
     {
         &self.role
@@ -56,29 +56,31 @@ impl LinkCore {
 
     /// Another daemon takes the place of the one that was served.
     pub fn join(&mut self, out: &mut Outbox) -> Result<(), NoMemory>
-        ensures core { OnOk result (core_of self.new ≡ (core_step (core_of self.old) laws.Joined).0) }
+        ensures core { OnOk result (core_of self.new
+            ≡ (core_step (core_of self.old) laws.Joined).0) }
         ensures out { OnOk result (out.new
             ≡ put_all out.old (core_step (core_of self.old) laws.Joined).1) }
     {
         self.role.resign(out)?;
         self.fed = 0;
-        self.role = Role::Standby;
+        self.role = LinkRole::Standby;
         Ok(())
     }
 
     /// The leadership is over, or may be.
     pub fn end(&mut self, out: &mut Outbox) -> Result<(), NoMemory>
         ensures core { OnOk result (core_of self.new ≡ (core_step (core_of self.old) laws.Over).0) }
-        ensures out { OnOk result (out.new ≡ put_all out.old (core_step (core_of self.old) laws.Over).1) }
+        ensures out { OnOk result (out.new
+            ≡ put_all out.old (core_step (core_of self.old) laws.Over).1) }
     {
         self.role.tell_lost(out)?;
         self.role.resign(out)?;
-        self.role = Role::Standby;
+        self.role = LinkRole::Standby;
         Ok(())
     }
 
     /// The daemon wrote a batch.
-    pub fn hear(&mut self, batch: Batch, out: &mut Outbox) -> Result<(), NoMemory>
+    pub fn hear(&mut self, batch: LogBatch, out: &mut Outbox) -> Result<(), NoMemory>
         ensures core { OnOk result (core_of self.new
             ≡ (core_step (core_of self.old) (laws.Appended batch)).0) }
         ensures out { OnOk result (out.new
@@ -89,30 +91,31 @@ impl LinkCore {
     }
 
     // The daemon doesn't lead, and was handed the log up to where the batch begins.
-    fn is_next(&self, batch: &Batch) -> bool
-        ensures { result ≡ is_next self.now.fed (role_of self.now.role) batch.now }
+    fn is_batch_next(&self, batch: &LogBatch) -> bool
+        ensures { result ≡ is_batch_next self.now.fed (law_role self.now.role) batch.now }
     {
         !self.role.is_leading() && batch.base() == self.fed
     }
 
     // The daemon doesn't lead, and was handed less of the log than the image stands for.
-    fn is_ahead(&self, image: &StoredImage) -> bool
-        ensures { result ≡ is_ahead self.now.fed (role_of self.now.role) image.now }
+    fn is_image_next(&self, image: &StoredImage) -> bool
+        ensures { result ≡ is_image_next self.now.fed (law_role self.now.role) image.now }
     {
         !self.role.is_leading() && self.fed < image.offset()
     }
 
     /// A batch was read in the log.
-    pub fn find(&mut self, batch: Batch, out: &mut Outbox) -> Result<(), NoMemory>
-        ensures core { OnOk result (core_of self.new ≡ (core_step (core_of self.old) (laws.Found batch)).0) }
+    pub fn find(&mut self, batch: LogBatch, out: &mut Outbox) -> Result<(), NoMemory>
+        ensures core { OnOk result (core_of self.new
+            ≡ (core_step (core_of self.old) (laws.Found batch)).0) }
         ensures out { OnOk result (out.new
             ≡ put_all out.old (core_step (core_of self.old) (laws.Found batch)).1) }
     {
-        if !self.is_next(&batch) {
+        if !self.is_batch_next(&batch) {
             return Ok(());
         }
         self.fed = batch.end();
-        out.put(Action::Send(Frame::Feed(batch)))?;
+        out.put(Action::Send(DaemonFrame::Feed(batch)))?;
         self.role.begin(self.alloc, self.fed, out)?;
         Ok(())
     }
@@ -124,11 +127,11 @@ impl LinkCore {
         ensures out { OnOk result (out.new
             ≡ put_all out.old (core_step (core_of self.old) (laws.FoundImage image)).1) }
     {
-        if !self.is_ahead(&image) {
+        if !self.is_image_next(&image) {
             return Ok(());
         }
         self.fed = image.offset();
-        out.put(Action::Send(Frame::Load(image)))?;
+        out.put(Action::Send(DaemonFrame::Load(image)))?;
         self.role.begin(self.alloc, self.fed, out)?;
         Ok(())
     }
@@ -140,10 +143,10 @@ impl LinkCore {
         ensures out { OnOk result (out.new
             ≡ put_all out.old (core_step (core_of self.old) (laws.Won (held_of held))).1) }
     {
-        if self.role.is_held() {
+        if self.role.has_leadership() {
             return Ok(());
         }
-        self.role = Role::Elected(held);
+        self.role = LinkRole::Elected(held);
         self.role.begin(self.alloc, self.fed, out)?;
         Ok(())
     }
@@ -156,12 +159,26 @@ impl LinkCore {
         ensures out { OnOk result (out.new
             ≡ put_all out.old (core_step (core_of self.old) (laws.Stood made base)).1) }
     {
-        if !self.role.is_of(made, base) {
+        if !self.role.awaits_append(made, base) {
             return Ok(());
         }
         let end = self.role.commit(self.alloc, self.fed, out)?;
         self.fed = end;
         Ok(())
+    }
+
+    /// A batch of the daemon's leadership doesn't begin where the last one ends.
+    pub fn is_misplaced(&self, batch: &LogBatch) -> bool
+        ensures { result ≡ is_misplaced self.now.fed (law_role self.now.role) batch.now }
+    {
+        self.role.is_misplaced(self.fed, batch)
+    }
+
+    /// The append under way has no answer yet, and is called for again: it does no harm.
+    pub fn ask_again(&self, out: &mut Outbox) -> Result<(), NoMemory>
+        ensures { OnOk result (out.new ≡ put_again out.old (law_role self.now.role)) }
+    {
+        self.role.ask_again(self.alloc, out)
     }
 
     /// The daemon gave an image; the one that stood when it was looked last is of the place `before`.

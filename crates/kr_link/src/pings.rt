@@ -1,7 +1,7 @@
 //! Pings of a daemon, and how far it answers.
 
 ghost use Rattle.std.specs.Prelude.{◌≡◌, ◌++◌, ◌∷◌, [], None, Some, OnOk, length, nat_lt};
-ghost use Rattle.kr_link.specs.Pings.{answered, fed_more, is_ahead, is_answer, is_fresh, is_pinged, is_same_epoch, silence};
+ghost use Rattle.kr_link.specs.Pings.{after_answer, fed_more, is_far_ahead, is_answer, is_fresh, is_pinged, leads_as, silence};
 
 use kr_base::NoMemory;
 use std::alloc::Global;
@@ -22,7 +22,7 @@ pub const EACH_BATCH: u64 = 1_024;
 pub struct Ping {
     /// Its number among the daemon's events.
     pub event: u64,
-    /// When it was sent.
+    /// When it was sent, in milliseconds.
     pub at: u64,
     /// The epoch that the daemon leads when it takes it.
     pub led: Option<u32>,
@@ -44,8 +44,8 @@ impl Model for Pings {
     ghost view = { λ s. record { sent = s.sent.items; unpinged = s.unpinged; heard = s.heard } };
 }
 
-fn is_same_epoch(one: Option<u32>, other: Option<u32>) -> bool
-    ensures { result ≡ is_same_epoch one other }
+fn leads_as(one: Option<u32>, other: Option<u32>) -> bool
+    ensures { result ≡ leads_as one other }
 {
     match (one, other) {
         (Some(one), Some(other)) => one == other,
@@ -58,7 +58,7 @@ fn is_oldest(sent: &VecDeque<Ping>, event: u64, led: Option<u32>) -> bool
     ensures { result ≡ is_answer sent.now.items event led }
 {
     match sent.front() {
-        Some(ping) => ping.event == event && is_same_epoch(ping.led, led),
+        Some(ping) => ping.event == event && leads_as(ping.led, led),
         None => false,
     }
 }
@@ -72,8 +72,8 @@ fn silence(sent: &VecDeque<Ping>, now: u64) -> u64
     }
 }
 
-fn is_ahead(sent: &VecDeque<Ping>) -> bool
-    ensures { result ≡ is_ahead sent.now.items }
+fn is_far_ahead(sent: &VecDeque<Ping>) -> bool
+    ensures { result ≡ is_far_ahead sent.now.items }
 {
     sent.len() > 2
 }
@@ -92,7 +92,8 @@ impl Pings {
 
     /// One more was sent.
     pub fn send(&mut self, ping: Ping) -> Result<(), NoMemory>
-        ensures { OnOk result (self.new ≡ record self.old { sent = self.old.sent ++ ping ∷ []; unpinged = 0 }) }
+        ensures { OnOk result (self.new
+            ≡ record self.old { sent = self.old.sent ++ ping ∷ []; unpinged = 0 }) }
     {
         self.sent.push_back(ping)?;
         self.unpinged = 0;
@@ -102,7 +103,7 @@ impl Pings {
     /// The daemon refused an event while it led an epoch: whether that answers the oldest ping that has no answer, as it should.
     pub fn answer(&mut self, event: u64, led: Option<u32>, now: u64) -> bool
         ensures is { result ≡ is_answer self.old.sent event led }
-        ensures after { self.new ≡ answered self.old event led now }
+        ensures after { self.new ≡ after_answer self.old event led now }
     {
         if !is_oldest(&self.sent, event, led) {
             return false;
@@ -113,10 +114,10 @@ impl Pings {
     }
 
     /// More of them have no answer than one may be ahead by.
-    pub fn is_ahead(&self) -> bool
-        ensures { result ≡ is_ahead self.now.sent }
+    pub fn is_far_ahead(&self) -> bool
+        ensures { result ≡ is_far_ahead self.now.sent }
     {
-        is_ahead(&self.sent)
+        is_far_ahead(&self.sent)
     }
 
     /// For how long the oldest has had no answer.

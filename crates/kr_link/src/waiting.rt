@@ -5,9 +5,9 @@ ghost use Rattle.std.specs.Option.{option_map_or};
 ghost use Rattle.law_quorum.specs.Batches.{Batch as AnyBatch};
 ghost use Rattle.law_quorum.specs.Changes.{base_of_first};
 ghost use Rattle.law_core.specs.Core.{append_group_behind, end_of};
-ghost use Rattle.kr_link.specs.Groups.{base_of, fitted, is_none, left_behind, place_behind, waiting_group};
+ghost use Rattle.kr_link.specs.Groups.{first_base_of, fitted, has_no_batch, left_behind, batch_end, waiting_group};
 
-use crate::Batch;
+use crate::LogBatch;
 use kr_base::NoMemory;
 use kr_defs::Rows;
 use std::alloc::Global;
@@ -22,11 +22,11 @@ pub const ROOM_TOGETHER: usize = 1_048_576;
 
 /// Batches that wait, in the order in which they were written.
 #[derive(Drop)]
-pub struct Waiting {
-    list: VecDeque<Batch>,
+pub struct WaitingBatches {
+    list: VecDeque<LogBatch>,
 }
 
-impl Model for Waiting {
+impl Model for WaitingBatches {
     ghost use Rattle.std.specs.Prelude.{List};
     ghost use Rattle.law_quorum.specs.Batches.{Batch as AnyBatch};
 
@@ -35,12 +35,12 @@ impl Model for Waiting {
     ghost view = { λ s. s.list.items };
 }
 
-impl Waiting {
+impl WaitingBatches {
     /// None waits.
-    pub fn new(alloc: Global) -> Waiting
+    pub fn new(alloc: Global) -> WaitingBatches
         ensures { result ≡ [] }
     {
-        Waiting {
+        WaitingBatches {
             list: VecDeque::new(alloc),
         }
     }
@@ -48,13 +48,13 @@ impl Waiting {
     /// None waits.
     #[tactic(auto, using(crate::proofs::Grouping::none_is))]
     pub fn is_empty(&self) -> bool
-        ensures { result ≡ is_none self.now }
+        ensures { result ≡ has_no_batch self.now }
     {
         has_none(&self.list)
     }
 
     /// One more waits behind them.
-    pub fn push(&mut self, batch: Batch) -> Result<(), NoMemory>
+    pub fn push(&mut self, batch: LogBatch) -> Result<(), NoMemory>
         ensures { OnOk result (self.new ≡ self.old ++ batch ∷ []) }
     {
         self.list.push_back(batch)?;
@@ -70,7 +70,7 @@ impl Waiting {
     }
 
     /// Takes those that go together in an append, at least one where any waits.
-    pub fn take_group(&mut self, alloc: Global) -> Result<Rows<Batch>, NoMemory>
+    pub fn take_group(&mut self, alloc: Global) -> Result<Rows<LogBatch>, NoMemory>
         ensures group { IfOk result (λ group. group ≡ (waiting_group self.old).0) }
         ensures rest { OnOk result (self.new ≡ (waiting_group self.old).1) }
     {
@@ -79,14 +79,14 @@ impl Waiting {
     }
 }
 
-fn has_none(waits: &VecDeque<Batch>) -> bool
+fn has_none(waits: &VecDeque<LogBatch>) -> bool
     ensures { result ≡ (length waits.now.items == 0) }
 {
     waits.is_empty()
 }
 
-fn last_end_of(waits: &VecDeque<Batch>, from: u64) -> u64
-    ensures { result ≡ option_map_or place_behind
+fn last_end_of(waits: &VecDeque<LogBatch>, from: u64) -> u64
+    ensures { result ≡ option_map_or batch_end
         (slice_get waits.now.items (length waits.now.items - 1)) from }
 {
     match waits.back() {
@@ -95,7 +95,7 @@ fn last_end_of(waits: &VecDeque<Batch>, from: u64) -> u64
     }
 }
 
-fn is_first_within(waits: &VecDeque<Batch>, room: usize) -> bool
+fn is_first_within(waits: &VecDeque<LogBatch>, room: usize) -> bool
     ensures { result ≡ option_map_or (λ (b : AnyBatch). nat_le (length b.bytes) room)
         (slice_get waits.now.items 0) false }
 {
@@ -106,7 +106,7 @@ fn is_first_within(waits: &VecDeque<Batch>, room: usize) -> bool
 }
 
 // The first, where it has room.
-fn pop_fitting(waits: &mut VecDeque<Batch>, room: usize) -> Option<Batch>
+fn pop_fitting(waits: &mut VecDeque<LogBatch>, room: usize) -> Option<LogBatch>
     ensures first { result ≡ fitted room waits.old.items }
     ensures rest { waits.new.items ≡ left_behind room waits.old.items }
 {
@@ -118,8 +118,8 @@ fn pop_fitting(waits: &mut VecDeque<Batch>, room: usize) -> Option<Batch>
 
 // Those that have room beside one, which go with it.
 fn fill(
-    waits: &mut VecDeque<Batch>,
-    group: &mut Rows<Batch>,
+    waits: &mut VecDeque<LogBatch>,
+    group: &mut Rows<LogBatch>,
     mut room: usize,
 ) -> Result<(), NoMemory>
     ensures group { OnOk result (group.new
@@ -141,7 +141,7 @@ fn fill(
     Ok(())
 }
 
-fn take_group(waits: &mut VecDeque<Batch>, alloc: Global) -> Result<Rows<Batch>, NoMemory>
+fn take_group(waits: &mut VecDeque<LogBatch>, alloc: Global) -> Result<Rows<LogBatch>, NoMemory>
     ensures group { IfOk result (λ group. group ≡ (waiting_group waits.old.items).0) }
     ensures rest { OnOk result (waits.new.items ≡ (waiting_group waits.old.items).1) }
 {
@@ -159,15 +159,15 @@ fn take_group(waits: &mut VecDeque<Batch>, alloc: Global) -> Result<Rows<Batch>,
 
 /// There is none.
 #[tactic(auto, using(crate::proofs::Grouping::none_is))]
-pub(crate) fn is_none(group: &Rows<Batch>) -> bool
-    ensures { result ≡ is_none group.now }
+pub(crate) fn has_no_batch(group: &Rows<LogBatch>) -> bool
+    ensures { result ≡ has_no_batch group.now }
 {
     group.is_empty()
 }
 
 /// Where the first begins.
-pub(crate) fn base_of(group: &Rows<Batch>) -> Option<u64>
-    ensures { result ≡ base_of group.now }
+pub(crate) fn first_base_of(group: &Rows<LogBatch>) -> Option<u64>
+    ensures { result ≡ first_base_of group.now }
 {
     match group.as_slice().first() {
         Some(batch) => Some(batch.base()),
@@ -175,7 +175,7 @@ pub(crate) fn base_of(group: &Rows<Batch>) -> Option<u64>
     }
 }
 
-fn first_base(group: &Rows<Batch>) -> u64
+fn first_base(group: &Rows<LogBatch>) -> u64
     ensures { result ≡ option_map_or (λ (b : AnyBatch). b.base) (slice_get group.now 0) 0 }
 {
     match group.as_slice().first() {
@@ -186,14 +186,14 @@ fn first_base(group: &Rows<Batch>) -> u64
 
 /// Where the first begins; 0 where there is none.
 #[tactic(auto, using(crate::proofs::Grouping::first_is))]
-pub(crate) fn base_of_first(group: &Rows<Batch>) -> u64
+pub(crate) fn base_of_first(group: &Rows<LogBatch>) -> u64
     ensures { result ≡ base_of_first group.now }
 {
     first_base(group)
 }
 
-fn last_end(group: &Rows<Batch>, from: u64) -> u64
-    ensures { result ≡ option_map_or place_behind (slice_get group.now (length group.now - 1)) from }
+fn last_end(group: &Rows<LogBatch>, from: u64) -> u64
+    ensures { result ≡ option_map_or batch_end (slice_get group.now (length group.now - 1)) from }
 {
     match group.as_slice().last() {
         Some(batch) => batch.end(),
@@ -203,7 +203,7 @@ fn last_end(group: &Rows<Batch>, from: u64) -> u64
 
 /// Where the last ends; the place itself where there is none.
 #[tactic(auto, using(crate::proofs::Grouping::last_ends))]
-pub(crate) fn end_of(group: &Rows<Batch>, from: u64) -> u64
+pub(crate) fn end_of(group: &Rows<LogBatch>, from: u64) -> u64
     ensures { result ≡ end_of from group.now }
 {
     last_end(group, from)

@@ -1,4 +1,4 @@
-use Rattle.std.proofs.Common.{◌≡◌, ◌∙◌, sym, ap, arith, List}
+use Rattle.std.proofs.Common.{◌≡◌, ◌∙◌, arith}
 use Rattle.std.specs.Prelude.{None, Some}
 use Rattle.kr_link.specs.Groups.{fitted}
 use Rattle.kr_link.proofs.Grouping.{fits, full_group, full_rest, next_group, next_rest, none_group, none_rest}

@@ -1,4 +1,4 @@
-use Rattle.std.proofs.Common.{◌≡◌, ◌∙◌, sym, ap, arith, List}
+use Rattle.std.proofs.Common.{◌∙◌, sym, arith}
 use Rattle.kr_link.proofs.Grouping.{all_stay, none_fits, one_fits, others_stay}
 use Rattle.kr_link.proofs.waiting.pop_fitting.Goals as goal
 
