@@ -1,5 +1,5 @@
 """Pibranog's proved calls for Python: records as lines of JSON, the image that a log makes, who would lead a partition, where
-replicas would be placed, and which leaders a round of the balancer would move.
+replicas would be placed, which leaders a round of the balancer would move, and messages: requests from JSON, replies to JSON.
 
 A `Door` starts the program `kr_door` and speaks to it (docs/FORMATS.md, "The door"):
 

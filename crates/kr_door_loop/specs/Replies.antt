@@ -1,5 +1,5 @@
 -- Replies as JSON: the question's front, and its answer. This project's own.
-use Rattle.std.specs.Prelude.{◌≡◌, ℕ, ℤ, List, Option, Some, None, Result, Ok, Err, Unit}
+use Rattle.std.specs.Prelude.{◌≡◌, ℕ, ℤ, List, Option, Some, None, Result, Ok, Err}
 use Rattle.kr_messages.specs.declared.fault.MessageFault.TheVariants as faults
 use Rattle.kr_messages.specs.Shown.{ShowsReply}
 use Rattle.kr_req.specs.declared.api.ApiKey.{ApiKey}

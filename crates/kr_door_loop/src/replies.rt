@@ -47,7 +47,10 @@ pub(crate) fn show_reply(alloc: Global, body: &[u8]) -> Answer
     ensures { AnswersReply body.now result }
 {
     match read_api(body) {
-        Ok(((key, version), next)) => show_numbered(alloc, &key, &version, &body[next..]),
+        Ok(((key, version), next)) => {
+            let (_front, message) = body.split_at(next);
+            show_numbered(alloc, &key, &version, message)
+        }
         Err(_) => Err(DoorRefusal::BadBody),
     }
 }

@@ -1,6 +1,6 @@
 -- What is taken and shown, one part after the other.
 use Rattle.std.proofs.Common.{◌≡◌, ◌∙◌, ℕ, Bool, true, false, List, [], ◌++◌, append-nil, Some, None, Result, Ok, Err, refl, sym, ap}
-use Rattle.std.specs.Prelude.{Unit, codes}
+use Rattle.std.specs.Prelude.{codes}
 use Rattle.kr_json.specs.JsonText.{elements}
 use Rattle.kr_json.proofs.Joined.{three}
 use Rattle.kr_layout.specs.declared.fault.ReadFault.{ReadFault}

@@ -1,5 +1,5 @@
 -- Parts of messages: their layouts, and their texts as Kafka's JSON converters write them (RFC 8259).
-use Rattle.std.specs.Prelude.{ℕ, Bool, true, false, List, [], ◌++◌, Option, Some, None, Unit, codes, if◌then◌else◌}
+use Rattle.std.specs.Prelude.{ℕ, Bool, true, false, List, [], ◌++◌, Option, Some, None, codes, if◌then◌else◌}
 use Rattle.std.specs.Fmt.{signed_decimal}
 use Rattle.kr_json.specs.JsonText as texts
 use Rattle.kr_wire.specs.Schema.{Schema, ◌▸◌}

@@ -1,5 +1,5 @@
 -- What is shown of a reply.
-use Rattle.std.specs.Prelude.{◌≡◌, ◌⊎◌, ℕ, List, Result, Ok, Err, Unit}
+use Rattle.std.specs.Prelude.{◌≡◌, ◌⊎◌, ℕ, List, Result, Ok, Err}
 use Rattle.kr_wire.specs.Schema.{Is}
 use Rattle.kr_req.specs.declared.api.ApiKey.{ApiKey}
 use Rattle.kr_req.specs.declared.api.ApiKey.TheVariants as apis
@@ -12,7 +12,7 @@ use Rattle.kr_messages.specs.Responses as responses
 pub record ShowsText (f : Form) (bytes text : List ℕ) : Type 0 where
   pub value : f.Value
   pub stands : Is f.schema value bytes
-  pub text : text ≡ f.json value
+  pub shown : text ≡ f.json value
 
 abbrev pub StandForNone : Form → List ℕ → Type 0
 StandForNone f bytes = (value : f.Value) → Is f.schema value bytes → ⊥

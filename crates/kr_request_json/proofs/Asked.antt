@@ -1,5 +1,5 @@
 -- Which request a text asks for.
-use Rattle.std.proofs.Common.{◌≡◌, ℕ, List, Result, Ok, Err, refl, sym, subst}
+use Rattle.std.proofs.Common.{◌≡◌, ℕ, List, Result, Ok, Err, refl}
 use Rattle.serde_json.specs.Data.{Data}
 use Rattle.kr_req.specs.declared.api.ApiKey.{ApiKey}
 use Rattle.kr_request_json.specs.declared.fault.RequestFault.{RequestFault}

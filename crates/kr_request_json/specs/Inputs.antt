@@ -1,5 +1,5 @@
 -- Which value a JSON is, as Kafka's JSON converters read it, and the bytes of a value.
-use Rattle.std.specs.Prelude.{ℕ, ℤ, pos, negsuc, ◌||◌, ◌==◌, Bool, List, [], ◌∷◌, ◌++◌, length, is_some, int_lt, nat_lt, Option, Some, None, option_map, option_and_then, Result, Ok, Err, codes, if◌then◌else◌}
+use Rattle.std.specs.Prelude.{ℕ, ℤ, pos, negsuc, ◌||◌, ◌==◌, List, [], ◌∷◌, ◌++◌, length, is_some, int_lt, nat_lt, Option, Some, None, option_map, option_and_then, Result, Ok, Err, codes, if◌then◌else◌}
 use Rattle.std.specs.Int.{w8, w16, w32, w64}
 use Rattle.base64.specs.Engines.{url_safe_no_pad}
 use Rattle.base64.specs.GeneralPurpose.{decode_of}

@@ -2,7 +2,6 @@
 
 ghost use Rattle.std.specs.Prelude.{◌≡◌};
 ghost use Rattle.kr_request_json.specs.declared.fault.PartFault.TheVariants as parts;
-ghost use Rattle.kr_request_json.specs.declared.fault.RequestFault.TheVariants as faults;
 
 use std::alloc::AllocError;
 use thiserror::Error;

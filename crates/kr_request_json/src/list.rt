@@ -1,9 +1,9 @@
 //! Lists, from arrays.
 
-ghost use Rattle.std.specs.Prelude.{◌≡◌, ◌<◌, ◌^◌, length};
-ghost use Rattle.serde_json.specs.View.{items_view, view};
+ghost use Rattle.std.specs.Prelude.{◌≡◌};
+ghost use Rattle.serde_json.specs.View.{items_view};
 ghost use Rattle.kr_request_json.specs.Inputs as inputs;
-ghost use Rattle.kr_request_json.specs.inner.Steps.{PutsInput, PutsItems};
+ghost use Rattle.kr_request_json.specs.inner.Steps.{PutsItems};
 
 use crate::fault::PartFault;
 use crate::part::Part;

@@ -5,7 +5,7 @@ ghost use Rattle.serde_json.specs.Read.{read};
 ghost use Rattle.serde_json.specs.View.{view};
 ghost use Rattle.kr_request_json.specs.declared.fault.RequestFault.TheVariants as faults;
 ghost use Rattle.kr_request_json.specs.Inputs.{int16_of, member_of, message_input};
-ghost use Rattle.kr_request_json.specs.Messages.{IsAnswerTo, api_for, bytes_for, json_of, message_for, numbers_of, or_fault, request_for, request_input, message_of_text};
+ghost use Rattle.kr_request_json.specs.Messages.{IsAnswerTo, api_for, bytes_for, json_of, message_for, numbers_of, or_fault, request_for, message_of_text};
 ghost use Rattle.kr_request_json.specs.inner.Steps.{AnswersSeen};
 
 use crate::fault::{PartFault, RequestFault};

@@ -5,7 +5,7 @@ ghost use Rattle.serde_json.specs.Find.{get};
 ghost use Rattle.serde_json.specs.View.{view};
 ghost use Rattle.kr_request_json.specs.Inputs as inputs;
 ghost use Rattle.kr_request_json.specs.Inputs.{◌≔◌, ◌⋄◌};
-ghost use Rattle.kr_request_json.specs.inner.Steps.{Found, PutsInput};
+ghost use Rattle.kr_request_json.specs.inner.Steps.{Found};
 
 use crate::fault::PartFault;
 use crate::part::Part;

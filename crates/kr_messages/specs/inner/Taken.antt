@@ -1,5 +1,5 @@
 -- Values that are taken off the front of bytes, and shown.
-use Rattle.std.specs.Prelude.{◌≡◌, ℕ, ◌&&◌, Bool, true, refl, false, List, [], ◌∷◌, ◌++◌, Result, Ok, Err, Unit, codes, if◌then◌else◌}
+use Rattle.std.specs.Prelude.{◌≡◌, ℕ, ◌&&◌, Bool, true, refl, false, List, [], ◌∷◌, ◌++◌, Result, Ok, Err, codes, if◌then◌else◌}
 use Rattle.kr_layout.specs.declared.fault.ReadFault.{ReadFault}
 use Rattle.kr_layout.specs.declared.fault.BodyFault.{BodyFault}
 use Rattle.kr_layout.specs.declared.fault.BodyFault.TheVariants as bodies

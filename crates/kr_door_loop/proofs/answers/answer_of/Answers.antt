@@ -8,3 +8,9 @@ returns-in-Elect c = subst (λ (kind : QuestionKind). AnswersKind kind c.args.bo
 
 pub returns-in-Place : goal.returns-in-Place
 returns-in-Place c = subst (λ (kind : QuestionKind). AnswersKind kind c.args.body.now c.place_replicas.result) (sym c.in-Place.is) c.place_replicas.ensures
+
+pub returns-in-Reply : goal.returns-in-Reply
+returns-in-Reply c = subst (λ (kind : QuestionKind). AnswersKind kind c.args.body.now c.show_reply.result) (sym c.in-Reply.is) c.show_reply.ensures
+
+pub returns-in-Request : goal.returns-in-Request
+returns-in-Request c = subst (λ (kind : QuestionKind). AnswersKind kind c.args.body.now c.write_request.result) (sym c.in-Request.is) c.write_request.ensures

@@ -1,4 +1,3 @@
-use Rattle.std.proofs.Common.{arith}
 use Rattle.std.proofs.lemmas.Result.{err_from_is_err_and}
 use Rattle.kr_request_json.proofs.Lists.{all_put, begun, one_more, one_refused}
 use Rattle.kr_request_json.proofs.list.put_items.Goals as goal
