@@ -33,7 +33,7 @@ use Rattle.law_link.specs.Links.{Has}
 use Rattle.law_nodes.specs.Nodes.{RunNode, after_by, after_event, batch_for, batches_of, fencing_batches}
 use Rattle.law_nodes.proofs.Lists.{HasItems}
 use Rattle.law_one_log.specs.Daemons.{IsNoFrame, batches_given}
-use Rattle.law_one_log.specs.StoredBatches.{batches_in, stored}
+use Rattle.law_one_log.specs.StoredBatches.{batches_in, stored, value_of_batch}
 use Rattle.law_one_log.proofs.DaemonStates.{with_batches}
 use Rattle.law_one_log.proofs.ReadLists.{AllStored}
 
@@ -90,7 +90,7 @@ pub among_above : (ends : List ℕ) (low at : ℕ) (bs : List StoredBatch) → l
 among_above ends low at [] le s some h = tt
 among_above ends low at (b ∷ bs) le s some h =
     let count = s.0.count in
-    let one = some.0 in (
+    let one : 0 < length (value_of_batch b).items = some.0 in (
       has_above low (at + b.count) ends (omega (arith, le, count, one)) h.0,
       among_above ends low (at + b.count) bs (omega (arith, le)) s.1 some.1 h.1,
     )

@@ -13,6 +13,7 @@ use Rattle.kr_calls.specs.declared.events.Event.{Event}
 use Rattle.kr_calls.specs.declared.events.Event.TheVariants as events
 use Rattle.kr_calls.specs.declared.events.Reason.{Reason}
 use Rattle.kr_defs.specs.declared.ill.Ill.{Ill}
+use Rattle.kr_defs.specs.declared.limits.TheConstants.{GREATEST_TIP}
 use Rattle.kr_defs.specs.declared.options.Options.{Options}
 use Rattle.kr_defs.specs.declared.record.Item.{Item}
 use Rattle.kr_defs.specs.Image.{Image, empty}
@@ -130,7 +131,7 @@ module _ (options : Options) (log : List StoredBatch) (k : ℕ) (d : Node) (n : 
   list = batches_in log
 
   near : (place : ℕ) → place ≤ behind 0 log → is_far (pos place) ≡ false
-  near place le = not_far _ place (behind 0 log) le room
+  near place le = not_far GREATEST_TIP place (behind 0 log) le room
 
   pub near_after : (before after : List StoredBatch) → log ≡ before ++ after → is_far (pos (behind 0 before)) ≡ false
   near_after before after split =

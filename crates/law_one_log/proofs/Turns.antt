@@ -60,6 +60,7 @@ first_follows : Follows [] first 0
 first_follows = record { done = []; ahead = []; before = []; shared = []; rest = []; list_is = refl; done_is = refl; items_are = refl; offset_is = refl; end_is = refl; starts = refl }
 
 first_node : IsNode [] (negsuc 0) fresh_node
+unfolding first_follows
 first_node = record {
   core = record {
     committed = first_follows;
