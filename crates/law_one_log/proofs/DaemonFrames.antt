@@ -63,6 +63,9 @@ ok_of : (q : Result State Reason) → IsOk q → (after : State) × (q ≡ Ok af
 ok_of (Ok after) h = (after, refl)
 ok_of (Err reason) h = absurd cc
 
+not_below : (e : ℤ) → int_lt e e ≡ true → ⊥
+not_below e up = grind (arith, ints)
+
 none_in : (bs : List StoredBatch) → batches_in bs ≡ [] → bs ≡ []
 none_in [] is = refl
 none_in (b ∷ bs) is = absurd cc
@@ -491,7 +494,7 @@ module _ (options : Options) (log : List StoredBatch) (k : ℕ) (d : Node) (n : 
             means = c.means;
             standby = λ idle. absurd (never n.state.world.leading idle (led_at epoch leads));
             low = c.low;
-            latest = λ is. absurd (let up = i.above i.elected is in grind (arith, ints));
+            latest = λ is. absurd (not_below i.elected (i.above i.elected is));
           };
           waits = i.node.waits;
           idle = i.node.idle;

@@ -212,7 +212,7 @@ module _ (options : Options) (log : List StoredBatch) (k : ℕ) (d : Node) (n : 
       load_accepted = record {
         after = after_load n.state image.offset seen;
         is = frames.load_is options log k d n i idle whole image right stored read ∙ load_taken;
-        knows = record { ends = no_ends n.state.world.batch_ends image.offset; low = h.low };
+        knows = record { ends = no_ends [] image.offset; low = h.low };
       }
 
     -- ---- Lead
