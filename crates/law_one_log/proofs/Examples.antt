@@ -1,6 +1,6 @@
 -- A run, computed: node 0 leads and writes a batch for a client. The append reaches the store twice, and takes effect once; the link sees the
 -- batch and commits it, and the client is told.
-use Rattle.std.proofs.Common.{◌≡◌, ℕ, ℤ, pos, List, [], ◌∷◌, refl, inl}
+use Rattle.std.proofs.Common.{◌≡◌, ℕ, pos, List, [], ◌∷◌, refl, inl}
 use Rattle.std.specs.Prelude.{Some, codes, false, fold}
 use Rattle.kr_batch.specs.declared.Batch.{Batch}
 use Rattle.kr_calls.specs.declared.calls.Ask.TheVariants as asks
@@ -75,7 +75,7 @@ run = Link (Make (Campaign 0 7 1)) ∷ Link (Win 0 one) ∷ Link (Begin 0 one) �
     ∷ Link (Execute 0 call) ∷ Link (Execute 0 call) ∷ Link (Settle 0 one) ∷ Take 0 (Commit 1 1) [] (pos 0) ∷ []
 
 -- it meets the conditions, where the bytes of its batch are read as it
-may_turn : IsReadBatch appended → AllMayTurn options no_system run
+pub may_turn : IsReadBatch appended → AllMayTurn options no_system run
 unfolding work_of incremental_alter_configs.decided done taken apply_record apply image_at state_at apply_at open_at value_bytes heartbeats_after refusals.refuse
 may_turn read = (
   (tt, tt),
@@ -109,16 +109,16 @@ may_turn read = (
   ),
 )
 
-told_then : (fold (turned options) no_system run).told ≡ success ∷ []
+pub told_then : (fold (turned options) no_system run).told ≡ success ∷ []
 unfolding work_of incremental_alter_configs.decided done taken apply_record apply image_at state_at apply_at open_at value_bytes heartbeats_after refusals.refuse
 told_then = refl
 
 -- the log has it once
-log_then : (fold (turned options) no_system run).network.web.cluster.point.log ≡ batch ∷ []
+pub log_then : (fold (turned options) no_system run).network.web.cluster.point.log ≡ batch ∷ []
 unfolding work_of incremental_alter_configs.decided done taken apply_record apply image_at state_at apply_at open_at value_bytes heartbeats_after refusals.refuse
 log_then = refl
 
 -- what the link is told of it is what the daemon gave
-pipe_then : ((fold (turned options) no_system (Link (Make (Campaign 0 7 1)) ∷ Link (Win 0 one) ∷ Link (Begin 0 one) ∷ Take 0 (Lead 1 0) [] (pos 0) ∷ Serve 0 asked ∷ [])).network.web.links 0).pipe ≡ batch ∷ []
+pub pipe_then : ((fold (turned options) no_system (Link (Make (Campaign 0 7 1)) ∷ Link (Win 0 one) ∷ Link (Begin 0 one) ∷ Take 0 (Lead 1 0) [] (pos 0) ∷ Serve 0 asked ∷ [])).network.web.links 0).pipe ≡ batch ∷ []
 unfolding work_of incremental_alter_configs.decided done taken apply_record apply image_at state_at apply_at open_at value_bytes heartbeats_after refusals.refuse
 pipe_then = refl

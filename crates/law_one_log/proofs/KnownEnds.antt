@@ -14,7 +14,7 @@ use Rattle.kr_calls.specs.declared.events.Reason.{Reason}
 use Rattle.kr_defs.specs.declared.options.Options.{Options}
 use Rattle.kr_defs.specs.declared.record.Record.{Record}
 use Rattle.kr_defs.specs.ImageLaws.{as_items}
-use Rattle.kr_defs.specs.Log.{Log, tip}
+use Rattle.kr_defs.specs.Log.{tip}
 use Rattle.kr_defs.proofs.Tests.{Gives, gives_done, gives_refuse}
 use Rattle.kr_model.specs.Events.{at_time_of, outcome}
 use Rattle.kr_model.specs.Outputs.{if_accepted, next_batch}
@@ -22,8 +22,7 @@ use Rattle.kr_model.specs.Reasons.{exhausted}
 use Rattle.kr_model.specs.Request.{after_ask, after_write, decision, is_decided}
 use Rattle.kr_model.specs.Tick.{fence, fence_all, fencing_of, lapsed_contacts}
 use Rattle.kr_model.specs.World.{State, World, image_of_tip, is_far, log_with, tip_of, with_records}
-use Rattle.kr_model.proofs.DueWrites.{batch_leaves}
-use Rattle.kr_model.proofs.LogEntries.{batch_written, not_none}
+use Rattle.kr_model.proofs.LogEntries.{not_none}
 use Rattle.kr_model.proofs.Logs.{tip_written}
 use Rattle.law_quorum.specs.Batches.{behind}
 use Rattle.law_quorum.specs.Batches.{Batch as StoredBatch}

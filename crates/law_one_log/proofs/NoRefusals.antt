@@ -30,9 +30,9 @@ use Rattle.kr_model.specs.Commit.{after_commit, commit, is_end}
 use Rattle.kr_model.specs.Events.{at_time_of, outcome}
 use Rattle.kr_model.specs.Lead.{after_lead, giving_up, lead, may_begin_at, taking_over}
 use Rattle.kr_model.specs.Load.{after_load, take_image}
-use Rattle.kr_model.specs.Lost.{after_lost, lost}
+use Rattle.kr_model.specs.Lost.{after_lost}
 use Rattle.kr_model.specs.Reasons as reasons
-use Rattle.kr_model.specs.World.{State, is_far, leads_in, seen_state, state_of_tip, tip_of}
+use Rattle.kr_model.specs.World.{State, is_far, leads_in, seen_state, tip_of}
 use Rattle.kr_model.proofs.DueWrites.{batch_leaves}
 use Rattle.law_quorum.specs.Batches.{BatchStandsAt, ImageStandsFor, Meet, StoredImage, behind}
 use Rattle.law_quorum.specs.Batches.{Batch as StoredBatch}
