@@ -1,5 +1,5 @@
 -- Each frame that a daemon takes makes of its controller what law_link says.
-use Rattle.std.proofs.Common.{◌≡◌, ◌∙◌, sym, subst, ℕ, ℤ, pos, ◌+◌, ◌<◌, ◌≤◌, true, false, cond, List, [], ◌∷◌, ◌++◌, length, take, map, refl, ap, arith}
+use Rattle.std.proofs.Common.{◌≡◌, ◌∙◌, sym, subst, ℕ, ℤ, pos, ◌+◌, ◌<◌, ◌≤◌, true, cond, List, [], ◌∷◌, ◌++◌, length, take, map, refl, ap, arith}
 use Rattle.std.specs.Prelude.{int_lt, not, is_some, Option, Some, None, Result, Ok, Err, IsOk, filter}
 use Rattle.std.specs.Ordering.{int_eq}
 use Rattle.std.specs.Result.{result_unwrap_or}
@@ -62,6 +62,9 @@ use Rattle.law_one_log.proofs.ReadLists.{AllStored, IsStored, all_have, behind_i
 ok_of : (q : Result State Reason) → IsOk q → (after : State) × (q ≡ Ok after)
 ok_of (Ok after) h = (after, refl)
 ok_of (Err reason) h = absurd cc
+
+not_below : (e : ℤ) → int_lt e e ≡ true → ⊥
+not_below e up = grind (arith, ints)
 
 none_in : (bs : List StoredBatch) → batches_in bs ≡ [] → bs ≡ []
 none_in [] is = refl
@@ -491,7 +494,7 @@ module _ (options : Options) (log : List StoredBatch) (k : ℕ) (d : Node) (n : 
             means = c.means;
             standby = λ idle. absurd (never n.state.world.leading idle (led_at epoch leads));
             low = c.low;
-            latest = λ is. absurd (let up = i.above i.elected is in grind (arith, ints));
+            latest = λ is. absurd (not_below i.elected (i.above i.elected is));
           };
           waits = i.node.waits;
           idle = i.node.idle;

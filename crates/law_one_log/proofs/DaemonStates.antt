@@ -1,5 +1,5 @@
 -- A daemon is a controller whose state stands for what law_link says of it, and each event keeps that so.
-use Rattle.std.proofs.Common.{◌≡◌, ◌∙◌, sym, subst, ℕ, ℤ, pos, ◌+◌, true, List, [], ◌∷◌, ◌++◌, length, map, take, refl, ap, arith}
+use Rattle.std.proofs.Common.{◌≡◌, ◌∙◌, sym, subst, ℕ, ℤ, pos, ◌+◌, true, List, [], ◌++◌, length, map, take, refl, ap, arith}
 use Rattle.std.specs.Prelude.{int_lt, ◌&&◌, Option, Some, None, Result, Ok, Err, IsOk}
 use Rattle.std.specs.List.{AllByRecursion}
 use Rattle.std.proofs.lemmas.Int.{ints}
@@ -26,7 +26,7 @@ use Rattle.law_quorum.specs.Batches.{behind}
 use Rattle.law_quorum.specs.Batches.{Batch as StoredBatch}
 use Rattle.law_quorum.specs.Nodes.{Node}
 use Rattle.law_quorum.proofs.Places.{all_append}
-use Rattle.law_nodes.specs.Nodes.{NodeTold, RunNode, after_by, after_event, batches_of, told_of}
+use Rattle.law_nodes.specs.Nodes.{RunNode, after_by, after_event, batches_of, told_of}
 use Rattle.law_nodes.specs.OneList.{list_items}
 use Rattle.law_nodes.proofs.Invariant.{IsCore, IsNode, core_at}
 use Rattle.law_nodes.proofs.LeaderLogs.{core_more}

@@ -1,7 +1,8 @@
 -- A run, computed: node 0 leads and writes a batch for a client. The append reaches the store twice, and takes effect once; the link sees the
 -- batch and commits it, and the client is told.
-use Rattle.std.proofs.Common.{◌≡◌, ℕ, ℤ, pos, List, [], ◌∷◌, refl}
+use Rattle.std.proofs.Common.{◌≡◌, ℕ, pos, List, [], ◌∷◌, refl, inl}
 use Rattle.std.specs.Prelude.{Some, codes, false, fold}
+use Rattle.kr_batch.specs.declared.Batch.{Batch}
 use Rattle.kr_calls.specs.declared.calls.Ask.TheVariants as asks
 use Rattle.kr_calls.specs.declared.calls.Reply.TheVariants as replies
 use Rattle.kr_calls.specs.declared.calls.Request.TheVariants as requests
@@ -25,7 +26,7 @@ use Rattle.law_quorum.specs.Changes.{Campaign}
 use Rattle.law_link.specs.Frames.{Commit, Lead}
 use Rattle.law_link.specs.Links.{Ask, Begin, Call, Execute, Hear, Held, Make, Settle, Win}
 use Rattle.law_nodes.specs.Nodes.{NodeTold}
-use Rattle.law_one_log.specs.Daemons.{Link, Serve, SystemTurn, Take, no_system, turned}
+use Rattle.law_one_log.specs.Daemons.{AllMayTurn, IsReadBatch, Link, Serve, SystemTurn, Take, no_system, turned}
 use Rattle.law_one_log.specs.StoredBatches.{stored}
 
 abbrev options : Options
@@ -57,8 +58,11 @@ asked = events.Request 1 (pos 0) (asks.Call (record {
   });
 }))
 
+abbrev appended : Batch
+appended = record { base = pos 0; epoch = pos 1; time = pos 0; items = item ∷ [] }
+
 abbrev batch : StoredBatch
-batch = stored (record { base = pos 0; epoch = pos 1; time = pos 0; items = item ∷ [] })
+batch = stored appended
 
 abbrev one : Held
 one = record { epoch = 1; made = 1; start = 0 }
@@ -70,16 +74,51 @@ abbrev run : List SystemTurn
 run = Link (Make (Campaign 0 7 1)) ∷ Link (Win 0 one) ∷ Link (Begin 0 one) ∷ Take 0 (Lead 1 0) [] (pos 0) ∷ Serve 0 asked ∷ Link (Hear 0 batch []) ∷ Link (Ask 0 one (batch ∷ []) [])
     ∷ Link (Execute 0 call) ∷ Link (Execute 0 call) ∷ Link (Settle 0 one) ∷ Take 0 (Commit 1 1) [] (pos 0) ∷ []
 
-told_then : (fold (turned options) no_system run).told ≡ success ∷ []
+-- it meets the conditions, where the bytes of its batch are read as it
+pub may_turn : IsReadBatch appended → AllMayTurn options no_system run
+unfolding work_of incremental_alter_configs.decided done taken apply_record apply image_at state_at apply_at open_at value_bytes heartbeats_after refusals.refuse
+may_turn read = (
+  (tt, tt),
+  (
+    ((refl, (λ x. x), record { leadership = record { node = 0; token = 7; epoch = 1; made = 1; start = []; wrote = [] }; found = refl; holder = refl; key = refl; began = refl }), tt),
+    (
+      (record { holds = refl; standby = refl; reached = refl }, tt),
+      (
+        (refl, tt, refl),
+        (
+          (tt, (read, tt)),
+          (
+            ((refl, refl), tt),
+            (
+              (record { holds = refl; leads = refl; none = refl; first = batch; others = []; some = refl; next = refl }, tt),
+              (
+                (inl refl, tt),
+                (
+                  (inl refl, tt),
+                  (
+                    (record { holds = refl; leads = refl; first = batch; others = []; some = refl; seen = record { before = []; after = []; split = refl; begins = refl } }, tt),
+                    ((refl, tt, refl), tt),
+                  ),
+                ),
+              ),
+            ),
+          ),
+        ),
+      ),
+    ),
+  ),
+)
+
+pub told_then : (fold (turned options) no_system run).told ≡ success ∷ []
 unfolding work_of incremental_alter_configs.decided done taken apply_record apply image_at state_at apply_at open_at value_bytes heartbeats_after refusals.refuse
 told_then = refl
 
 -- the log has it once
-log_then : (fold (turned options) no_system run).network.web.cluster.point.log ≡ batch ∷ []
+pub log_then : (fold (turned options) no_system run).network.web.cluster.point.log ≡ batch ∷ []
 unfolding work_of incremental_alter_configs.decided done taken apply_record apply image_at state_at apply_at open_at value_bytes heartbeats_after refusals.refuse
 log_then = refl
 
 -- what the link is told of it is what the daemon gave
-pipe_then : ((fold (turned options) no_system (Link (Make (Campaign 0 7 1)) ∷ Link (Win 0 one) ∷ Link (Begin 0 one) ∷ Take 0 (Lead 1 0) [] (pos 0) ∷ Serve 0 asked ∷ [])).network.web.links 0).pipe ≡ batch ∷ []
+pub pipe_then : ((fold (turned options) no_system (Link (Make (Campaign 0 7 1)) ∷ Link (Win 0 one) ∷ Link (Begin 0 one) ∷ Take 0 (Lead 1 0) [] (pos 0) ∷ Serve 0 asked ∷ [])).network.web.links 0).pipe ≡ batch ∷ []
 unfolding work_of incremental_alter_configs.decided done taken apply_record apply image_at state_at apply_at open_at value_bytes heartbeats_after refusals.refuse
 pipe_then = refl

@@ -14,7 +14,7 @@ use Rattle.kr_calls.specs.declared.events.Reason.{Reason}
 use Rattle.kr_defs.specs.declared.options.Options.{Options}
 use Rattle.kr_defs.specs.declared.record.Record.{Record}
 use Rattle.kr_defs.specs.ImageLaws.{as_items}
-use Rattle.kr_defs.specs.Log.{Log, tip}
+use Rattle.kr_defs.specs.Log.{tip}
 use Rattle.kr_defs.proofs.Tests.{Gives, gives_done, gives_refuse}
 use Rattle.kr_model.specs.Events.{at_time_of, outcome}
 use Rattle.kr_model.specs.Outputs.{if_accepted, next_batch}
@@ -22,8 +22,7 @@ use Rattle.kr_model.specs.Reasons.{exhausted}
 use Rattle.kr_model.specs.Request.{after_ask, after_write, decision, is_decided}
 use Rattle.kr_model.specs.Tick.{fence, fence_all, fencing_of, lapsed_contacts}
 use Rattle.kr_model.specs.World.{State, World, image_of_tip, is_far, log_with, tip_of, with_records}
-use Rattle.kr_model.proofs.DueWrites.{batch_leaves}
-use Rattle.kr_model.proofs.LogEntries.{batch_written, not_none}
+use Rattle.kr_model.proofs.LogEntries.{not_none}
 use Rattle.kr_model.proofs.Logs.{tip_written}
 use Rattle.law_quorum.specs.Batches.{behind}
 use Rattle.law_quorum.specs.Batches.{Batch as StoredBatch}
@@ -33,7 +32,7 @@ use Rattle.law_link.specs.Links.{Has}
 use Rattle.law_nodes.specs.Nodes.{RunNode, after_by, after_event, batch_for, batches_of, fencing_batches}
 use Rattle.law_nodes.proofs.Lists.{HasItems}
 use Rattle.law_one_log.specs.Daemons.{IsNoFrame, batches_given}
-use Rattle.law_one_log.specs.StoredBatches.{batches_in, stored}
+use Rattle.law_one_log.specs.StoredBatches.{batches_in, stored, value_of_batch}
 use Rattle.law_one_log.proofs.DaemonStates.{with_batches}
 use Rattle.law_one_log.proofs.ReadLists.{AllStored}
 
@@ -90,7 +89,7 @@ pub among_above : (ends : List ℕ) (low at : ℕ) (bs : List StoredBatch) → l
 among_above ends low at [] le s some h = tt
 among_above ends low at (b ∷ bs) le s some h =
     let count = s.0.count in
-    let one = some.0 in (
+    let one : 0 < length (value_of_batch b).items = some.0 in (
       has_above low (at + b.count) ends (omega (arith, le, count, one)) h.0,
       among_above ends low (at + b.count) bs (omega (arith, le)) s.1 some.1 h.1,
     )

@@ -1,14 +1,13 @@
 -- The records of the log have a meaning, one after the other: a leader writes what has one behind the log that it began with, and what is
 -- appended for it is what it wrote, in its order.
 use Rattle.std.proofs.Common.{◌≡◌, ◌∙◌, sym, subst, ℕ, ◌+◌, ◌<◌, ◌≤◌, Bool, true, false, cond, List, [], ◌∷◌, ◌++◌, length, take, drop, refl, ap, arith, inl, inr, ◌⊎◌}
-use Rattle.std.specs.Prelude.{nat_eq, IsOk, Option, Some, None, Result}
+use Rattle.std.specs.Prelude.{nat_eq, IsOk, Some, None}
 use Rattle.std.specs.List.{AllByRecursion}
 use Rattle.std.proofs.lemmas.Bool.{eqb-true}
 use Rattle.std.proofs.lemmas.Bool.Decides.{nat_tests}
 use Rattle.std.proofs.lemmas.List.{append-nil, append_assoc, length-append, take_all, take_at, take-append-drop, take-append-le}
-use Rattle.kr_defs.specs.declared.ill.Ill.{Ill}
 use Rattle.kr_defs.specs.declared.record.Item.{Item}
-use Rattle.kr_defs.specs.Image.{Image, empty}
+use Rattle.kr_defs.specs.Image.{empty}
 use Rattle.kr_defs.specs.Log.{apply_all}
 use Rattle.law_quorum.specs.Batches.{Batch, Meet, behind}
 use Rattle.law_quorum.specs.Changes.{Append, Campaign, Change, Drop, Expire, Other, base_of_first, compares, leads_by}
@@ -20,7 +19,7 @@ use Rattle.law_quorum.proofs.FedNodes.{begins_log}
 use Rattle.law_quorum.proofs.KeptLog.{both}
 use Rattle.law_quorum.proofs.Places.{behind_append, meet_before}
 use Rattle.law_link.specs.Links.{Ask, Begin, Call, Clear, Execute, Give, GiveUp, Has, Hear, Held, IsFree, IsPossible, LetGo, Link, LinkStep, Make, MayAsk, MaySettle, Pass, Read, Renew, Settle, Stray, Take, Web, Win, Write, append_of, idle, leadership_at, no_web, set_link, stepped}
-use Rattle.law_link.proofs.FoundLeaderships.{Stays, found_epoch, found_led, found_longer, found_other, is_latest, longer_by, no_append_stays, refused_stays, same_leadership}
+use Rattle.law_link.proofs.FoundLeaderships.{Stays, found_led, found_longer, found_other, is_latest, longer_by, no_append_stays, refused_stays, same_leadership}
 use Rattle.law_link.proofs.LateFrames.{at_node}
 use Rattle.law_link.proofs.LinkSteps.{CallRight, IsWeb, Runs, all_before, all_map2, has_all, of_epoch, runs_at, up_to}
 use Rattle.law_link.proofs.StepLaws.{step_right}

@@ -13,6 +13,7 @@ use Rattle.kr_calls.specs.declared.events.Event.{Event}
 use Rattle.kr_calls.specs.declared.events.Event.TheVariants as events
 use Rattle.kr_calls.specs.declared.events.Reason.{Reason}
 use Rattle.kr_defs.specs.declared.ill.Ill.{Ill}
+use Rattle.kr_defs.specs.declared.limits.TheConstants.{GREATEST_TIP}
 use Rattle.kr_defs.specs.declared.options.Options.{Options}
 use Rattle.kr_defs.specs.declared.record.Item.{Item}
 use Rattle.kr_defs.specs.Image.{Image, empty}
@@ -29,9 +30,9 @@ use Rattle.kr_model.specs.Commit.{after_commit, commit, is_end}
 use Rattle.kr_model.specs.Events.{at_time_of, outcome}
 use Rattle.kr_model.specs.Lead.{after_lead, giving_up, lead, may_begin_at, taking_over}
 use Rattle.kr_model.specs.Load.{after_load, take_image}
-use Rattle.kr_model.specs.Lost.{after_lost, lost}
+use Rattle.kr_model.specs.Lost.{after_lost}
 use Rattle.kr_model.specs.Reasons as reasons
-use Rattle.kr_model.specs.World.{State, is_far, leads_in, seen_state, state_of_tip, tip_of}
+use Rattle.kr_model.specs.World.{State, is_far, leads_in, seen_state, tip_of}
 use Rattle.kr_model.proofs.DueWrites.{batch_leaves}
 use Rattle.law_quorum.specs.Batches.{BatchStandsAt, ImageStandsFor, Meet, StoredImage, behind}
 use Rattle.law_quorum.specs.Batches.{Batch as StoredBatch}
@@ -130,7 +131,7 @@ module _ (options : Options) (log : List StoredBatch) (k : ℕ) (d : Node) (n : 
   list = batches_in log
 
   near : (place : ℕ) → place ≤ behind 0 log → is_far (pos place) ≡ false
-  near place le = not_far _ place (behind 0 log) le room
+  near place le = not_far GREATEST_TIP place (behind 0 log) le room
 
   pub near_after : (before after : List StoredBatch) → log ≡ before ++ after → is_far (pos (behind 0 before)) ≡ false
   near_after before after split =
@@ -211,7 +212,7 @@ module _ (options : Options) (log : List StoredBatch) (k : ℕ) (d : Node) (n : 
       load_accepted = record {
         after = after_load n.state image.offset seen;
         is = frames.load_is options log k d n i idle whole image right stored read ∙ load_taken;
-        knows = record { ends = no_ends n.state.world.batch_ends image.offset; low = h.low };
+        knows = record { ends = no_ends [] image.offset; low = h.low };
       }
 
     -- ---- Lead

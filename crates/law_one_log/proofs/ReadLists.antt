@@ -1,5 +1,5 @@
 -- Batches of the store, and the record batches that they are read as.
-use Rattle.std.proofs.Common.{◌≡◌, ◌∙◌, sym, subst, ℕ, ℤ, pos, ◌+◌, ◌<◌, List, [], ◌∷◌, ◌++◌, length, map, refl, ap, arith}
+use Rattle.std.proofs.Common.{◌≡◌, ◌∙◌, sym, ℕ, ℤ, pos, ◌+◌, List, [], ◌∷◌, ◌++◌, length, map, refl, ap, arith}
 use Rattle.std.specs.Prelude.{unsigned_abs, Result, Ok}
 use Rattle.std.specs.Result.{result_unwrap_or}
 use Rattle.std.specs.List.{AllByRecursion}
@@ -7,7 +7,6 @@ use Rattle.std.proofs.lemmas.List.{length-append, map-append}
 use Rattle.kr_batch.specs.declared.Batch.{Batch}
 use Rattle.kr_batch.specs.declared.fault.BatchFault.{BatchFault}
 use Rattle.kr_batch.specs.Reading.{batch_of}
-use Rattle.kr_defs.specs.declared.record.Item.{Item}
 use Rattle.law_quorum.specs.Batches.{Meet, behind}
 use Rattle.law_quorum.specs.Batches.{Batch as StoredBatch}
 use Rattle.law_nodes.specs.OneList.{list_items}

@@ -1,11 +1,11 @@
 -- What is true of each batch that a daemon writes is true of each batch of the log, and of each that a link knows.
-use Rattle.std.proofs.Common.{◌≡◌, sym, subst, ℕ, Bool, true, false, cond, List, [], ◌∷◌, ◌++◌, ap}
+use Rattle.std.proofs.Common.{◌≡◌, subst, ℕ, Bool, true, false, cond, List, [], ◌∷◌, ◌++◌}
 use Rattle.std.specs.List.{AllByRecursion}
 use Rattle.law_quorum.specs.Batches.{Batch}
 use Rattle.law_quorum.specs.Changes.{Append, Campaign, Change, Drop, Expire, Other, compares}
 use Rattle.law_quorum.specs.History.{Point, batches_appended, point_after}
 use Rattle.law_quorum.proofs.Places.{all_after, all_append}
-use Rattle.law_link.specs.Links.{Ask, Begin, Call, Clear, Execute, Give, GiveUp, Has, Hear, IsFree, IsPossible, LetGo, Link, LinkStep, Make, Pass, Read, Renew, Settle, Stray, Take, Web, Win, Write, append_of, no_web, set_link, stepped}
+use Rattle.law_link.specs.Links.{Ask, Begin, Call, Clear, Execute, Give, GiveUp, Hear, IsFree, IsPossible, LetGo, Link, LinkStep, Make, Pass, Read, Renew, Settle, Stray, Take, Web, Win, Write, append_of, no_web, set_link, stepped}
 use Rattle.law_link.proofs.LateFrames.{at_node}
 use Rattle.law_link.proofs.LinkSteps.{all_before, has_all}
 

@@ -1,8 +1,8 @@
 -- Each turn keeps daemons, links and store right, and what was told in the log.
-use Rattle.std.proofs.Common.{◌≡◌, ◌∙◌, sym, subst, ℕ, suc, ℤ, pos, negsuc, Bool, false, cond, List, [], ◌∷◌, ◌++◌, length, map, refl, ap, arith}
+use Rattle.std.proofs.Common.{◌≡◌, ◌∙◌, sym, subst, ℕ, suc, ℤ, pos, negsuc, Bool, false, cond, List, [], ◌∷◌, ◌++◌, length, refl, ap, arith}
 use Rattle.std.specs.Prelude.{nat_eq, fold, Option, Result, Ok, take}
 use Rattle.std.specs.List.{AllByRecursion}
-use Rattle.std.proofs.lemmas.List.{append-nil, append_assoc, take_at}
+use Rattle.std.proofs.lemmas.List.{append-nil, take_at}
 use Rattle.kr_batch.specs.declared.Batch.{Batch}
 use Rattle.kr_calls.specs.declared.calls.Ask.{Ask}
 use Rattle.kr_calls.specs.declared.events.Event.{Event}
@@ -60,6 +60,7 @@ first_follows : Follows [] first 0
 first_follows = record { done = []; ahead = []; before = []; shared = []; rest = []; list_is = refl; done_is = refl; items_are = refl; offset_is = refl; end_is = refl; starts = refl }
 
 first_node : IsNode [] (negsuc 0) fresh_node
+unfolding first_follows
 first_node = record {
   core = record {
     committed = first_follows;

@@ -1,5 +1,5 @@
 -- Daemons over links: controllers, whose events are the frames that come, and those of their own.
-use Rattle.std.specs.Prelude.{◌≡◌, ℕ, ℤ, pos, List, [], ◌∷◌, ◌++◌, map, false, fold, Result, Ok, Err}
+use Rattle.std.specs.Prelude.{◌≡◌, ℕ, ℤ, pos, List, [], ◌∷◌, ◌++◌, map, false, fold, Ok}
 use Rattle.std.specs.List.{AllByRecursion}
 use Rattle.kr_batch.specs.declared.Batch.{Batch}
 use Rattle.kr_batch.specs.BatchBytes.{batch_bytes}
@@ -7,8 +7,7 @@ use Rattle.kr_batch.specs.Reading.{batch_of}
 use Rattle.kr_calls.specs.declared.events.Event.{Event}
 use Rattle.kr_calls.specs.declared.events.Event.TheVariants as events
 use Rattle.kr_defs.specs.declared.options.Options.{Options}
-use Rattle.kr_defs.specs.Image.{Image, empty}
-use Rattle.kr_defs.specs.Log.{apply_all}
+use Rattle.kr_defs.specs.Image.{Image}
 use Rattle.kr_snapshot.specs.ImageText.{image_text}
 use Rattle.kr_snapshot.specs.Reading.{image_of}
 use Rattle.kr_model.specs.Events.{at_time_of, outcome}
@@ -16,7 +15,6 @@ use Rattle.kr_model.specs.Outputs.{if_accepted}
 use Rattle.kr_model.specs.World.{State, is_far}
 use Rattle.law_quorum.specs.Batches.{behind}
 use Rattle.law_nodes.specs.Nodes.{NodeTold, RunNode, after_event, batches_of, fresh_node, told_of}
-use Rattle.law_nodes.specs.OneList.{list_items}
 use Rattle.law_link.specs.Frames.{Act, Arrive, Commit, Emit, Feed, Frame, Lead, Load, Lost, MayAct, Network, NetworkStep, Snapshot, network_after, no_network, set_at}
 use Rattle.law_link.specs.Links.{LinkStep, Renew}
 use Rattle.law_link.specs.Refusals.{Rises}
