@@ -75,7 +75,7 @@ run = Link (Make (Campaign 0 7 1)) ∷ Link (Win 0 one) ∷ Link (Begin 0 one) �
     ∷ Link (Execute 0 call) ∷ Link (Execute 0 call) ∷ Link (Settle 0 one) ∷ Take 0 (Commit 1 1) [] (pos 0) ∷ []
 
 -- it meets the conditions, where the bytes of its batch are read as it
-pub may_turn : IsReadBatch appended → AllMayTurn options no_system run
+may_turn : IsReadBatch appended → AllMayTurn options no_system run
 unfolding work_of incremental_alter_configs.decided done taken apply_record apply image_at state_at apply_at open_at value_bytes heartbeats_after refusals.refuse
 may_turn read = (
   (tt, tt),
@@ -109,16 +109,16 @@ may_turn read = (
   ),
 )
 
-pub told_then : (fold (turned options) no_system run).told ≡ success ∷ []
+told_then : (fold (turned options) no_system run).told ≡ success ∷ []
 unfolding work_of incremental_alter_configs.decided done taken apply_record apply image_at state_at apply_at open_at value_bytes heartbeats_after refusals.refuse
 told_then = refl
 
 -- the log has it once
-pub log_then : (fold (turned options) no_system run).network.web.cluster.point.log ≡ batch ∷ []
+log_then : (fold (turned options) no_system run).network.web.cluster.point.log ≡ batch ∷ []
 unfolding work_of incremental_alter_configs.decided done taken apply_record apply image_at state_at apply_at open_at value_bytes heartbeats_after refusals.refuse
 log_then = refl
 
 -- what the link is told of it is what the daemon gave
-pub pipe_then : ((fold (turned options) no_system (Link (Make (Campaign 0 7 1)) ∷ Link (Win 0 one) ∷ Link (Begin 0 one) ∷ Take 0 (Lead 1 0) [] (pos 0) ∷ Serve 0 asked ∷ [])).network.web.links 0).pipe ≡ batch ∷ []
+pipe_then : ((fold (turned options) no_system (Link (Make (Campaign 0 7 1)) ∷ Link (Win 0 one) ∷ Link (Begin 0 one) ∷ Take 0 (Lead 1 0) [] (pos 0) ∷ Serve 0 asked ∷ [])).network.web.links 0).pipe ≡ batch ∷ []
 unfolding work_of incremental_alter_configs.decided done taken apply_record apply image_at state_at apply_at open_at value_bytes heartbeats_after refusals.refuse
 pipe_then = refl

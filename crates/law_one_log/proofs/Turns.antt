@@ -398,8 +398,8 @@ module _ (options : Options) (y : System) (h : IsSystem y) where
     serves_right (events.Request client now ask) own reads = asked client now ask reads
     serves_right (events.Tick now) own reads = ticked now reads
     serves_right events.Image own reads = imaged
-    serves_right (events.Lead epoch next now) own reads = absurd own
-    serves_right (events.Commit epoch end) own reads = absurd own
+    serves_right (events.Lead epoch _ now) own reads = absurd own
+    serves_right (events.Commit epoch _) own reads = absurd own
     serves_right (events.Lost epoch) own reads = absurd own
     serves_right (events.Batch bytes) own reads = absurd own
     serves_right (events.Load bytes) own reads = absurd own
