@@ -1,4 +1,4 @@
-use Rattle.std.proofs.Common.{◌∙◌, sym, ap}
+use Rattle.std.proofs.Common.{◌≡◌, ◌∙◌, sym, ap, List}
 use Rattle.law_core.specs.Core.{resigning}
 use Rattle.kr_link.specs.Outgoing.{Outgoing, put_all}
 use Rattle.kr_link.specs.Roles.{law_role}

@@ -1,3 +1,4 @@
+use Rattle.std.proofs.Common.{◌≡◌, ◌∙◌, sym, ap, List}
 use Rattle.kr_link.specs.Roles.{law_role}
 use Rattle.kr_link.proofs.CoreSteps.{heard_core, heard_out}
 use Rattle.kr_link.proofs.link_core.LinkCore.hear.Goals as goal

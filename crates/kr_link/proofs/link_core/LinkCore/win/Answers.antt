@@ -1,4 +1,4 @@
-use Rattle.std.proofs.Common.{◌∙◌, sym, ap, []}
+use Rattle.std.proofs.Common.{◌≡◌, ◌∙◌, sym, ap, List, []}
 use Rattle.law_core.specs.Core.{Outcome, Role}
 use Rattle.law_core.specs.Core as laws
 use Rattle.kr_link.specs.Outgoing.{put_all}

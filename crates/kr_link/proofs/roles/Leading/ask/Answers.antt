@@ -1,4 +1,4 @@
-use Rattle.std.proofs.Common.{◌∙◌, sym, ap, List}
+use Rattle.std.proofs.Common.{◌≡◌, ◌∙◌, sym, ap, List}
 use Rattle.law_core.specs.Core.{Deed}
 use Rattle.kr_link.specs.Outgoing.{put_all}
 use Rattle.kr_link.specs.Roles.{held_of}

@@ -1,4 +1,4 @@
-use Rattle.std.proofs.Common.{◌∙◌, sym}
+use Rattle.std.proofs.Common.{◌≡◌, ◌∙◌, sym}
 use Rattle.kr_link.specs.Roles.{held_of}
 use Rattle.kr_link.proofs.CoreSteps.{none_again, some_again}
 use Rattle.kr_link.proofs.roles.Leading.ask_again.Goals as goal

@@ -1,4 +1,4 @@
-use Rattle.std.proofs.Common.{◌∙◌, ap, List}
+use Rattle.std.proofs.Common.{◌≡◌, ◌∙◌, sym, ap, List}
 use Rattle.law_quorum.specs.Batches.{Batch}
 use Rattle.kr_link.specs.Cores.{asked_in}
 use Rattle.kr_link.specs.Roles.{held_of}
