@@ -1,0 +1,8 @@
+pub mod DeedEffects
+pub mod CoreDeeds
+pub mod CoreRunEnds
+pub mod Sides
+pub mod CallSides
+pub mod Campaigns
+pub mod WonEpochs
+pub mod TimedRuns

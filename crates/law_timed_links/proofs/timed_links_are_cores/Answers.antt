@@ -1,0 +1,5 @@
+use Rattle.law_timed_links.proofs.TimedRuns.{timed_links_are_cores}
+use Rattle.law_timed_links.proofs.timed_links_are_cores.Goals as goal
+
+pub returns : goal.returns
+returns c = timed_links_are_cores

@@ -1,0 +1,2 @@
+pub mod TimedRuns
+pub mod TimedLaws
