@@ -1,3 +1,4 @@
+mod Examples
 pub mod DeedEffects
 pub mod CoreDeeds
 pub mod CoreRunEnds

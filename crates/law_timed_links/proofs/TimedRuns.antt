@@ -28,7 +28,7 @@ use Rattle.kr_link.specs.Roles.{held_of}
 use Rattle.kr_link.specs.TimedLinks.{TimedLink, campaign_of, first_link}
 use Rattle.kr_link.proofs.LinkMoves.{calls_are_moves}
 use Rattle.law_timed_links.specs.TimedLaws.{AreNames, IsRunOfCores, KeepsOneLog, TimedLinksAreCores, TimedLinksKeepOneLog}
-use Rattle.law_timed_links.specs.TimedRuns.{AllMayFollow, Arrives, Calls, CallsFor, Changes, Gives, IsRightCall, IsSeenAppend, IsUncalled, LinkedNode, MayFollow, Reaches, Restarts, Takes, TimedEvent, TimedRun, Writes, called, cluster_moves, first_run, frames_sent, restarted, timed_after, with_done}
+use Rattle.law_timed_links.specs.TimedRuns.{AllMayFollow, Arrives, Calls, CallsFor, Changes, Gives, IsRightCall, IsSeenAppend, IsUncalled, LinkedNode, MayFollow, Reaches, Restarts, Takes, TimedEvent, TimedRun, Writes, called, cluster_moves, timed_start, frames_sent, restarted, timed_after, with_done}
 use Rattle.law_timed_links.proofs.CoreRunEnds.{ComesTo, network_is, one_more, run_of, so_too}
 use Rattle.law_timed_links.proofs.DeedEffects.{IsKnown, IsOwnAppend}
 use Rattle.law_timed_links.proofs.Campaigns.{Goes, IsBelow, IsNoWin, answered, awaits_after, goes, unanswered, was_awaited}
@@ -390,7 +390,7 @@ module _ (make : List Batch → List ℕ) (name : ℕ → ℕ → ℕ) (names : 
   events_beside t [] b a = b
   events_beside t (event ∷ events) b (here, a) = events_beside (timed_after t event) events (event_beside t b event here) a
 
-  first_beside : (settings : ℕ → LinkSettings) → IsBeside (first_run settings)
+  first_beside : (settings : ℕ → LinkSettings) → IsBeside (timed_start settings)
   unfolding first_link
   first_beside settings = record {
     won = λ k. [];
@@ -417,7 +417,7 @@ module _ (make : List Batch → List ℕ) (name : ℕ → ℕ → ℕ) (names : 
 
 pub timed_links_are_cores : TimedLinksAreCores
 timed_links_are_cores make name settings events names may =
-    runs_beside make name names (fold timed_after (first_run settings) events) (events_beside make name names (first_run settings) events (first_beside make name names settings) may)
+    runs_beside make name names (fold timed_after (timed_start settings) events) (events_beside make name names (timed_start settings) events (first_beside make name names settings) may)
 
 keeps_one_log : (make : List Batch → List ℕ) (t : TimedRun) → IsRunOfCores make t → KeepsOneLog make t
 keeps_one_log make t r =
@@ -432,4 +432,4 @@ keeps_one_log make t r =
 
 pub timed_links_keep_one_log : TimedLinksKeepOneLog
 timed_links_keep_one_log make name settings events names may =
-    keeps_one_log make (fold timed_after (first_run settings) events) (timed_links_are_cores make name settings events names may)
+    keeps_one_log make (fold timed_after (timed_start settings) events) (timed_links_are_cores make name settings events names may)

@@ -7,7 +7,7 @@ use Rattle.law_link.specs.Frames.{daemons_of, no_network}
 use Rattle.law_link.specs.Refusals.{AllRise}
 use Rattle.law_core.specs.Runs.{AllMayCome, CoreRun, Event, all_steps, no_run, run_after}
 use Rattle.kr_link.specs.declared.link.LinkSettings.{LinkSettings}
-use Rattle.law_timed_links.specs.TimedRuns.{AllMayFollow, LinkedNode, TimedEvent, TimedRun, first_run, frames_sent, timed_after}
+use Rattle.law_timed_links.specs.TimedRuns.{AllMayFollow, LinkedNode, TimedEvent, TimedRun, timed_start, frames_sent, timed_after}
 
 -- no two campaigns have one name
 abbrev pub AreNames : (ℕ → ℕ → ℕ) → Type 0
@@ -32,7 +32,7 @@ pub record IsRunOfCores (make : List Batch → List ℕ) (t : TimedRun) : Type 0
 -- Links by their clocks are cores.
 abbrev pub TimedLinksAreCores : Type 0
 TimedLinksAreCores = (make : List Batch → List ℕ) (name : ℕ → ℕ → ℕ) (settings : ℕ → LinkSettings) (events : List TimedEvent) → AreNames name
-    → AllMayFollow make name (first_run settings) events → IsRunOfCores make (fold timed_after (first_run settings) events)
+    → AllMayFollow make name (timed_start settings) events → IsRunOfCores make (fold timed_after (timed_start settings) events)
 
 -- So the store has one log, and each daemon is at a beginning of it.
 pub record KeepsOneLog (make : List Batch → List ℕ) (t : TimedRun) : Type 0 where
@@ -42,4 +42,4 @@ pub record KeepsOneLog (make : List Batch → List ℕ) (t : TimedRun) : Type 0 
 
 abbrev pub TimedLinksKeepOneLog : Type 0
 TimedLinksKeepOneLog = (make : List Batch → List ℕ) (name : ℕ → ℕ → ℕ) (settings : ℕ → LinkSettings) (events : List TimedEvent) → AreNames name
-    → AllMayFollow make name (first_run settings) events → KeepsOneLog make (fold timed_after (first_run settings) events)
+    → AllMayFollow make name (timed_start settings) events → KeepsOneLog make (fold timed_after (timed_start settings) events)

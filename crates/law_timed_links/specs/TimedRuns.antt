@@ -1,5 +1,4 @@
--- Runs of links by their clocks over one store: what a link puts out is done, and reaches its daemon later and the store late, twice or
--- never.
+-- Runs of links by their clocks, over one store.
 use Rattle.std.specs.Prelude.{◌≡◌, ℕ, ◌+◌, List, [], ◌∷◌, ◌++◌, fold}
 use Rattle.law_quorum.specs.Batches.{Batch, StoredImage, BatchStandsAt, ImageStandsFor}
 use Rattle.law_quorum.specs.Changes.{Append, Campaign, Change, Drop, Expire, Other}
@@ -162,5 +161,5 @@ abbrev pub first_node : LinkSettings → LinkedNode
 first_node settings = record { link = first_link settings; life = 0; done = []; frames = []; pipe = []; images = [] }
 
 -- the links of the nodes, with what they are started with
-abbrev pub first_run : (ℕ → LinkSettings) → TimedRun
-first_run settings = record { cluster = at_first; nodes = λ k. first_node (settings k) }
+abbrev pub timed_start : (ℕ → LinkSettings) → TimedRun
+timed_start settings = record { cluster = at_first; nodes = λ k. first_node (settings k) }
