@@ -66,12 +66,12 @@ module _ (make : List Batch → List ℕ) (k : ℕ) (sides : ℕ → LinkSide) w
 
   pub told_at : (c : Cluster) (s : LinkSide) (came : Came) → IsNoJoin came → (x : ComesTo make c (AreAt s)) → IsRightOf make (run_of x.events).network k came
       → RisesBehind came s.won → ComesTo make c (AreAt (told_by s.core s came))
-  told_at c s came no x right below =
+  told_at c s came free x right below =
       let r = run_of x.events in
       one_more make c c (AreAt s) (AreAt (told_by s.core s came)) x (Comes k came) right
       (rises k (behind_first (r.network.web.links k).pipe) r.network (r.cores k) came (subst (λ (won : List ℕ). RisesBehind came won) (sym x.sides.0.won) below))
-      (told_cluster make k x.events x.may came no right s x.sides.0 ∙ x.cluster)
-      (told_right make k x.events x.may came no right s x.sides.0, λ j other. sides_stay k came r j other (sides j) (x.sides.1 j other))
+      (told_cluster make k x.events x.may came free right s x.sides.0 ∙ x.cluster)
+      (told_right make k x.events x.may came free right s x.sides.0, λ j other. sides_stay k came r j other (sides j) (x.sides.1 j other))
 
   pub joins_at : (c : Cluster) (s : LinkSide) (actions : List Action) → flat_map frames_sent actions ≡ [] → ((l : Link) → AllByRecursion (IsKnown l) actions)
       → ComesTo make c (AreAt s) → ComesTo make (moved c (Renew k)) (AreAt (joined_side s actions))

@@ -302,24 +302,24 @@ IsNoWin other = Unit {0}
 
 pub awaits_after : (l : TimedLink) (call : LinkCall) → IsNoWin call → AwaitsAfter l (link_after l call)
 unfolding on_settle_image
-awaits_after l (Win token held) no = absurd no
-awaits_after l (Lose token) no = lost l token
-awaits_after l (See seen now) no = saw l seen now
-awaits_after l (Join now) no = as_before l (on_join l now) (same_join l now)
-awaits_after l Part no = as_before l (on_part l) (same_part l)
-awaits_after l (Write b) no = as_before l (on_write l b) (same_write l b)
-awaits_after l (Refuse event led now) no = as_before l (on_refuse l event led now) (same_refuse l event led now)
-awaits_after l (Stand made base) no = as_before l (on_stand l made base) (same_stand l made base)
-awaits_after l (Fail made base) no = as_before l (on_fail l made base) (same_fail l made base)
-awaits_after l (Miss made base) no = as_before l (on_miss l made base) (same_miss l made base)
-awaits_after l (Renewal made is_granted) no = as_before l (on_renewal l made is_granted) (same_renewal_call l made is_granted)
-awaits_after l (Lapse made) no = as_before l (on_lapse l made) (same_lapse l made)
-awaits_after l (Find b now) no = as_before l (on_find l b now) (same_find l b now)
-awaits_after l (FindImage image now) no = as_before l (on_find_image l image now) (same_find_image l image now)
-awaits_after l (Finish is_known) no = as_before l (on_finish l is_known) (same_finish l is_known)
-awaits_after l (Give image) no = as_before l (on_give l image) (same_give l image)
-awaits_after l (SettleImage answer) no = inr (inl refl)
-awaits_after l (Wake now) no = as_before l (on_wake l now) (same_wake l now)
+awaits_after l (Win token held) free = absurd free
+awaits_after l (Lose token) free = lost l token
+awaits_after l (See seen now) free = saw l seen now
+awaits_after l (Join now) free = as_before l (on_join l now) (same_join l now)
+awaits_after l Part free = as_before l (on_part l) (same_part l)
+awaits_after l (Write b) free = as_before l (on_write l b) (same_write l b)
+awaits_after l (Refuse event led now) free = as_before l (on_refuse l event led now) (same_refuse l event led now)
+awaits_after l (Stand made base) free = as_before l (on_stand l made base) (same_stand l made base)
+awaits_after l (Fail made base) free = as_before l (on_fail l made base) (same_fail l made base)
+awaits_after l (Miss made base) free = as_before l (on_miss l made base) (same_miss l made base)
+awaits_after l (Renewal made is_granted) free = as_before l (on_renewal l made is_granted) (same_renewal_call l made is_granted)
+awaits_after l (Lapse made) free = as_before l (on_lapse l made) (same_lapse l made)
+awaits_after l (Find b now) free = as_before l (on_find l b now) (same_find l b now)
+awaits_after l (FindImage image now) free = as_before l (on_find_image l image now) (same_find_image l image now)
+awaits_after l (Finish is_known) free = as_before l (on_finish l is_known) (same_finish l is_known)
+awaits_after l (Give image) free = as_before l (on_give l image) (same_give l image)
+awaits_after l (SettleImage answer) free = inr (inl refl)
+awaits_after l (Wake now) free = as_before l (on_wake l now) (same_wake l now)
 
 -- ---- an answer
 

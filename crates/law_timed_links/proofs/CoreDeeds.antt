@@ -28,10 +28,10 @@ quiet_leading fed h = either AreQuiet (nat_eq fed h.start) (HandLead h ∷ []) [
 
 -- ---- the pipe, and the epochs won
 
-pub record Leaves (rest : List Batch) (l : Link) (deeds : List Deed) (pipe : List Batch) (won : List ℕ) : Type 0 where
+pub record Leaves (rest : List Batch) (l : Link) (deeds : List Deed) (batches : List Batch) (epochs : List ℕ) : Type 0 where
   pub no_serve : AllByRecursion IsNoServe deeds
-  pub pipe : (fold (link_with rest) l deeds).pipe ≡ pipe
-  pub won : (fold (link_with rest) l deeds).won ≡ won
+  pub pipe : (fold (link_with rest) l deeds).pipe ≡ batches
+  pub won : (fold (link_with rest) l deeds).won ≡ epochs
 
 quiet_no_serve : (deed : Deed) → IsQuiet deed → IsNoServe deed
 quiet_no_serve Serve q = q
@@ -64,9 +64,9 @@ quiet rest l (deed ∷ deeds) (q, all) =
 -- behind a deed that is no serve
 behind_one : (rest : List Batch) (l : Link) (deed : Deed) (deeds : List Deed) → IsNoServe deed → AreQuiet deeds
     → Leaves rest l (deed ∷ deeds) (link_with rest l deed).pipe (link_with rest l deed).won
-behind_one rest l deed deeds no all =
+behind_one rest l deed deeds free all =
     let r : Leaves rest (link_with rest l deed) deeds (link_with rest l deed).pipe (link_with rest l deed).won = quiet rest (link_with rest l deed) deeds all in
-    record { no_serve = (no, r.no_serve); pipe = r.pipe; won = r.won }
+    record { no_serve = (free, r.no_serve); pipe = r.pipe; won = r.won }
 
 abbrev pub pipe_told : List Batch → Came → List Batch → List Batch
 pipe_told rest (Appended b) pipe = rest
@@ -185,10 +185,10 @@ module _ (rest : List Batch) (l : Link) where
   admitted fed (Leading held asked waits) h = quiet rest l [] tt
 
   pub leaves : (c : LinkCore) (came : Came) → IsNoJoin came → Leaves rest l (core_step c came).1 (pipe_told rest came l.pipe) (won_told came c.role l.won)
-  leaves c Joined no = absurd no
-  leaves c (Appended b) no = taken (on_appended c.fed c.role b).1 (appended c.fed c.role b)
-  leaves c (Won h) no = admitted c.fed c.role h
-  leaves c came no = quiet rest l (core_step c came).1 (plain c came tt)
+  leaves c Joined free = absurd free
+  leaves c (Appended b) free = taken (on_appended c.fed c.role b).1 (appended c.fed c.role b)
+  leaves c (Won h) free = admitted c.fed c.role h
+  leaves c came free = quiet rest l (core_step c came).1 (plain c came tt)
 
 -- ---- the append under way was called for
 

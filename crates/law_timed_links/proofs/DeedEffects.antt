@@ -67,8 +67,8 @@ module _ (k : ℕ) (rest : List Batch) where
   linked n other = there k (link_with rest (n.web.links k) other) (n.web.links k)
 
   same_cluster : (n : Network) (deed : Deed) → IsNoServe deed → daemons_of (after n deed) ≡ daemons_of n
-  same_cluster n Serve no = absurd no
-  same_cluster n other no = refl
+  same_cluster n Serve free = absurd free
+  same_cluster n other free = refl
 
   same_images : (n : Network) (deed : Deed) → (after n deed).images ≡ n.images
   same_images n other = refl
@@ -78,8 +78,8 @@ module _ (k : ℕ) (rest : List Batch) where
   all_linked n (deed ∷ deeds) = all_linked (after n deed) deeds ∙ ap (λ (l : Link). fold (link_with rest) l deeds) (linked n deed)
 
   pub all_same_cluster : (n : Network) (deeds : List Deed) → AllByRecursion IsNoServe deeds → daemons_of (fold network_after n (acts k rest deeds)) ≡ daemons_of n
-  all_same_cluster n [] no = refl
-  all_same_cluster n (deed ∷ deeds) (no, none) = all_same_cluster (after n deed) deeds none ∙ same_cluster n deed no
+  all_same_cluster n [] free = refl
+  all_same_cluster n (deed ∷ deeds) (free, none) = all_same_cluster (after n deed) deeds none ∙ same_cluster n deed free
 
   pub all_same_images : (n : Network) (deeds : List Deed) → (fold network_after n (acts k rest deeds)).images ≡ n.images
   all_same_images n [] = refl
@@ -119,18 +119,18 @@ abbrev pub all_sent : List Deed → List Frame
 all_sent deeds = flat_map frames_sent (flat_map actions_of deeds)
 
 pub frames_put : (frames : List Frame) (deeds : List Deed) → AllByRecursion IsNoServe deeds → fold frames_with frames deeds ≡ frames ++ all_sent deeds
-frames_put frames [] no = sym (append-nil frames)
-frames_put frames (Serve ∷ deeds) (no, none) = absurd no
-frames_put frames (HandBatch b ∷ deeds) (no, none) = frames_put (frames ++ Feed b ∷ []) deeds none ∙ append_assoc frames (Feed b ∷ []) (all_sent deeds)
-frames_put frames (HandImage image ∷ deeds) (no, none) =
+frames_put frames [] free = sym (append-nil frames)
+frames_put frames (Serve ∷ deeds) (free, none) = absurd free
+frames_put frames (HandBatch b ∷ deeds) (free, none) = frames_put (frames ++ Feed b ∷ []) deeds none ∙ append_assoc frames (Feed b ∷ []) (all_sent deeds)
+frames_put frames (HandImage image ∷ deeds) (free, none) =
     frames_put (frames ++ Load image ∷ []) deeds none ∙ append_assoc frames (Load image ∷ []) (all_sent deeds)
-frames_put frames (HandLead h ∷ deeds) (no, none) =
+frames_put frames (HandLead h ∷ deeds) (free, none) =
     frames_put (frames ++ Lead h.epoch h.start ∷ []) deeds none ∙ append_assoc frames (Lead h.epoch h.start ∷ []) (all_sent deeds)
-frames_put frames (HandCommit h end ∷ deeds) (no, none) =
+frames_put frames (HandCommit h end ∷ deeds) (free, none) =
     frames_put (frames ++ Commit h.epoch end ∷ []) deeds none ∙ append_assoc frames (Commit h.epoch end ∷ []) (all_sent deeds)
-frames_put frames (HandLost h ∷ deeds) (no, none) =
+frames_put frames (HandLost h ∷ deeds) (free, none) =
     frames_put (frames ++ Lost h.epoch ∷ []) deeds none ∙ append_assoc frames (Lost h.epoch ∷ []) (all_sent deeds)
-frames_put frames (deed ∷ deeds) (no, none) = frames_put frames deeds none
+frames_put frames (deed ∷ deeds) (free, none) = frames_put frames deeds none
 
 -- ---- calls
 

@@ -141,7 +141,7 @@ module _ (make : List Batch → List ℕ) (k : ℕ) (events : List Event) (may :
   abbrev l : Link
   l = n.web.links k
 
-  module _ (came : Came) (no : IsNoJoin came) (right : IsRightOf make (run_of events).network k came) (s : LinkSide) (a : AreSides (core_side (run_of events) k) s) where
+  module _ (came : Came) (free : IsNoJoin came) (right : IsRightOf make (run_of events).network k came) (s : LinkSide) (a : AreSides (core_side (run_of events) k) s) where
     abbrev after : CoreRun
     after = run_after r (Comes k came)
 
@@ -152,7 +152,7 @@ module _ (make : List Batch → List ℕ) (k : ℕ) (events : List Event) (may :
     linked = all_linked k (behind_first l.pipe) n (core_step c came).1
 
     left : Leaves (behind_first l.pipe) l (core_step c came).1 (pipe_told (behind_first l.pipe) came l.pipe) (won_told came c.role l.won)
-    left = leaves (behind_first l.pipe) l c came no
+    left = leaves (behind_first l.pipe) l c came free
 
     frames_then : after.network.frames k ≡ s.frames ++ flat_map frames_sent (s.actions ++ flat_map actions_of (core_step c came).1)
     frames_then =

@@ -132,35 +132,35 @@ module _ (make : List Batch → List ℕ) (name : ℕ → ℕ → ℕ) (names : 
 
       call_sides : (call : LinkCall) → IsNoWin call → IsRightCall make name t k call
           → ComesTo make (fold moved c (cluster_moves (Calls k call))) (At (link_side (called x call) (b.won k)))
-      call_sides (calls.Join now) no right = joined_at make k side c x (b.won k) at_first now right
-      call_sides (calls.Write batch) no (rest, piped) = wrote_at make k side c x (b.won k) at_first batch rest piped
-      call_sides (calls.Win token held) no right = absurd no
-      call_sides (calls.Stand made base) no right =
+      call_sides (calls.Join now) free right = joined_at make k side c x (b.won k) at_first now right
+      call_sides (calls.Write batch) free (rest, piped) = wrote_at make k side c x (b.won k) at_first batch rest piped
+      call_sides (calls.Win token held) free right = absurd free
+      call_sides (calls.Stand made base) free right =
           plain_at make k side c (side k) (Stood made base) (core_work l) (core_work (link_after l (calls.Stand made base))) tt (calls_are_moves l (calls.Stand made base)) at_first
           (stood_right made base right)
-      call_sides (calls.Find batch now) no right =
+      call_sides (calls.Find batch now) free right =
           plain_at make k side c (side k) (Found batch) (core_work l) (core_work (link_after l (calls.Find batch now))) tt (calls_are_moves l (calls.Find batch now)) at_first
           (subst (λ (q : Cluster). BatchStandsAt q.point.log batch.base batch) (sym at_first.cluster) right)
-      call_sides (calls.FindImage image now) no right =
+      call_sides (calls.FindImage image now) free right =
           plain_at make k side c (side k) (FoundImage image) (core_work l) (core_work (link_after l (calls.FindImage image now))) tt (calls_are_moves l (calls.FindImage image now)) at_first
           (subst (λ (q : Cluster). ImageStandsFor make q.point.log image) (sym at_first.cluster) right)
-      call_sides (calls.Give image) no right =
+      call_sides (calls.Give image) free right =
           plain_at make k side c (side k) (Imaged l.seen.image image) (core_work l) (core_work (link_after l (calls.Give image))) tt (calls_are_moves l (calls.Give image)) at_first
           (subst (λ (images : List StoredImage). Has image images) (sym at_first.sides.0.images) right)
-      call_sides call no right = plain_at make k side c (side k) Over (core_work l) (core_work (link_after l call)) tt (calls_are_moves l call) at_first tt
+      call_sides call free right = plain_at make k side c (side k) Over (core_work l) (core_work (link_after l call)) tt (calls_are_moves l call) at_first tt
 
       goes_on : (call : LinkCall) → Goes (core_work l) (core_work (link_after l call))
       goes_on call = goes (calls.came_with l call) (core_work l) (core_work (link_after l call)) (calls_are_moves l call)
 
       call_counted : (call : LinkCall) → IsNoWin call → CountedAt p k (called x call) (b.won k)
-      call_counted call no =
+      call_counted call free =
           called_right name k p.keys.epoch p.leaderships x.life x.done l.campaigns.next l.campaigns.under_way l.out.actions (b.won k) (b.counted k) names
           (link_after l call).campaigns.next (link_after l call).campaigns.under_way (link_after l call).out.actions (goes_on call).next
-          ((goes_on call).below (b.counted k).below) (awaits_after l call no)
+          ((goes_on call).below (b.counted k).below) (awaits_after l call free)
 
       called_beside : (call : LinkCall) → IsNoWin call → IsRightCall make name t k call → IsBeside (timed_after t (Calls k call))
-      called_beside call no right =
-          one_node (fold moved c (cluster_moves (Calls k call))) (called x call) (b.won k) (point_stays c k call) (call_sides call no right) (call_counted call no)
+      called_beside call free right =
+          one_node (fold moved c (cluster_moves (Calls k call))) (called x call) (b.won k) (point_stays c k call) (call_sides call free right) (call_counted call free)
 
       module _ (token : ℕ) (held : KrHeld) (took : TookLeadership p.leaderships k (held_of held)) (named : took.leadership.token ≡ name x.life token) where
         abbrev then : TimedLink
@@ -374,7 +374,7 @@ module _ (make : List Batch → List ℕ) (name : ℕ → ℕ → ℕ) (names : 
     changes : (change : Change) → IsUncalled change → IsBeside (timed_after t (Changes change))
     changes Expire is = stored Expire (makes Expire tt) (λ j. tt)
     changes Other is = stored Other (makes Other tt) (λ j. tt)
-    changes other is = absurd is
+    changes _ is = absurd is
 
     event_beside : (event : TimedEvent) → MayFollow make name t event → IsBeside (timed_after t event)
     event_beside (Calls k call) may = call_beside k call may

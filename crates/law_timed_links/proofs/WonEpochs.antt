@@ -79,7 +79,7 @@ module _ (name : ℕ → ℕ → ℕ) (k : ℕ) where
   -- a campaign of this node's that takes effect was called for
   abbrev pub IsCalledIn : List (ℕ × Action) → Change → Type 0
   IsCalledIn done (Campaign node token epoch) = node ≡ k → WasCalled name done token
-  IsCalledIn done other = Unit {0}
+  IsCalledIn done _ = Unit {0}
 
   module _ (p : Point) (life : ℕ) (done : List (ℕ × Action)) (next : ℕ) (awaited : Option LinkCampaign) (put : List Action) (won : List ℕ)
       (i : IsCounted p.keys.epoch p.leaderships life done next awaited put won) where

@@ -141,7 +141,7 @@ CallsFor name k life other change = ⊥
 abbrev pub IsUncalled : Change → Type 0
 IsUncalled Expire = Unit {0}
 IsUncalled Other = Unit {0}
-IsUncalled other = ⊥
+IsUncalled _ = ⊥
 
 abbrev pub MayFollow : (List Batch → List ℕ) → (ℕ → ℕ → ℕ) → TimedRun → TimedEvent → Type 0
 MayFollow make name r (Calls k call) = IsRightCall make name r k call
