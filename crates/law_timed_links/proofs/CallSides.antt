@@ -1,16 +1,16 @@
 -- Each call of a link keeps its node beside a run of cores: its core is told what came, or that the leadership is over, and what else it
 -- puts out is beside the log.
-use Rattle.std.proofs.Common.{◌≡◌, ◌∙◌, sym, ℕ, ◌<◌, Bool, true, false, cond, List, [], ◌∷◌, ◌++◌, refl, ap, subst, inl, inr, ◌⊎◌}
+use Rattle.std.proofs.Common.{◌≡◌, ◌∙◌, sym, ℕ, Bool, true, false, cond, List, [], ◌∷◌, ◌++◌, refl, ap, subst, inl, inr, ◌⊎◌}
 use Rattle.std.proofs.lemmas.List.{append_assoc, append-nil}
 use Rattle.std.proofs.lemmas.List.Concat.{flat_map-append}
 use Rattle.std.specs.Prelude.{None, Option, Some, filter, flat_map, fold, nat_eq}
 use Rattle.std.specs.List.{AllByRecursion}
-use Rattle.law_quorum.specs.Batches.{Batch, StoredImage}
+use Rattle.law_quorum.specs.Batches.{Batch}
 use Rattle.law_quorum.specs.Nodes.{Cluster, Renew, moved}
-use Rattle.law_link.specs.Frames.{Frame, daemons_of}
+use Rattle.law_link.specs.Frames.{Frame}
 use Rattle.law_link.specs.Links.{Held, Link}
-use Rattle.law_core.specs.Core.{Appended, Came, Deed, Elected, Joined, Leading, LinkCore, Outcome, Over, Pass, Role, Standby, Won, core_step, first_core, on_appended, on_over, resigning}
-use Rattle.law_core.specs.Runs.{Comes, CoreRun, IsRightOf, behind_first, run_after}
+use Rattle.law_core.specs.Core.{Appended, Came, Elected, Joined, Leading, LinkCore, Outcome, Over, Pass, Role, Standby, Won, core_step, first_core, on_appended, on_over, resigning}
+use Rattle.law_core.specs.Runs.{Comes, CoreRun, IsRightOf, behind_first}
 use Rattle.kr_link.specs.declared.actions.Action.{Action}
 use Rattle.kr_link.specs.declared.actions.Action.TheVariants as actions
 use Rattle.kr_link.specs.declared.actions.DaemonFrame.TheVariants as frames
@@ -24,7 +24,7 @@ use Rattle.kr_link.specs.TimedLinks.{TimedLink, closes, gives_up, hears, is_stra
 use Rattle.law_timed_links.specs.TimedRuns.{LinkedNode, called, frames_sent}
 use Rattle.law_timed_links.proofs.CoreRunEnds.{ComesTo, one_more, run_of, so_too}
 use Rattle.law_timed_links.proofs.DeedEffects.{IsKnown, all_both, either}
-use Rattle.law_timed_links.proofs.CoreDeeds.{IsAsked, IsNoJoin, IsPlain, pipe_told, won_by, won_told}
+use Rattle.law_timed_links.proofs.CoreDeeds.{IsAsked, IsNoJoin, IsPlain, won_by}
 use Rattle.law_timed_links.proofs.Sides.{AreSides, CoreSide, LinkSide, RisesBehind, core_side, join_cluster, join_right, joined_side, link_side, rises, sides_stay, told_by, told_cluster, told_right}
 
 -- ---- what goes out

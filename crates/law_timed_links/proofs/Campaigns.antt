@@ -1,8 +1,8 @@
 -- What calls of a link make of its campaigns: each begins with the next token, and one whose answer came isn't awaited any more.
-use Rattle.std.proofs.Common.{◌≡◌, ◌∙◌, sym, ℕ, ◌+◌, ◌<◌, ◌≤◌, Bool, true, false, cond, List, [], ◌∷◌, ◌++◌, refl, ap, subst, arith, inl, inr, ◌⊎◌}
+use Rattle.std.proofs.Common.{◌≡◌, ◌∙◌, sym, ℕ, ◌+◌, ◌<◌, ◌≤◌, Bool, true, false, cond, List, [], ◌∷◌, refl, ap, subst, arith, inl, inr, ◌⊎◌}
 use Rattle.std.proofs.lemmas.Bool.{eqb-true}
 use Rattle.std.specs.Option.{unwrap_or}
-use Rattle.std.specs.Prelude.{None, Option, Some, ◌&&◌, filter, flat_map, fold, length, nat_eq, not}
+use Rattle.std.specs.Prelude.{None, Option, Some, filter, flat_map, fold, length, nat_eq}
 use Rattle.std.specs.List.{AllByRecursion}
 use Rattle.law_quorum.specs.Batches.{Batch, StoredImage}
 use Rattle.law_core.specs.Core.{CallAppend, CallDrop, Came, Deed, Elected, HandBatch, HandCommit, HandImage, HandLead, HandLost, Leading, Over, Resign, Role, Standby, core_step}
@@ -19,7 +19,7 @@ use Rattle.kr_link.specs.LinkMoves.{AreLinkMoves, CallAgain, Campaigns, CoreWork
 use Rattle.kr_link.specs.Outgoing.{actions_of}
 use Rattle.kr_link.specs.Pings.{Pinged}
 use Rattle.kr_link.specs.Roles.{revision_held}
-use Rattle.kr_link.specs.TimedLinks.{TimedLink, admits, asks_again, asks_image, asks_renewal, beats, beats_when_due, calls_again, calls_campaign, campaign_of, campaigning, closes, commits, considers, counts, done_asking, ends_when_due, feeds, follows, gives_up, grants, hears, holds, holds_any, is_ahead_now, is_awaited, is_beat, is_below_end, is_below_image, is_due_to_end, is_follower, is_held_at, is_idle, is_later_image, is_looking, is_ping_answer, is_ping_due, is_reading, is_served, is_silent, is_stray, is_to_renew, keeps_image, let_go, loads, looks, may_campaign, notes, on_fail, on_find, on_find_image, on_finish, on_give, on_join, on_lapse, on_miss, on_part, on_refuse, on_renewal, on_see, on_settle_image, on_stand, on_wake, on_win, on_write, pinged, pinged_of, reads_batches, reads_image, refuses, renewal_of, renews, resigns, serves, serves_none, settles_campaign, stands_for, tells, ticks, tries, wants_image, with_beat, with_bytes, with_ping_answer}
+use Rattle.kr_link.specs.TimedLinks.{TimedLink, admits, asks_again, asks_image, asks_renewal, beats, beats_when_due, calls_again, calls_campaign, campaign_of, campaigning, closes, commits, considers, counts, done_asking, ends_when_due, feeds, follows, gives_up, grants, hears, holds, holds_any, is_ahead_now, is_awaited, is_beat, is_below_end, is_below_image, is_due_to_end, is_follower, is_held_at, is_idle, is_later_image, is_looking, is_ping_answer, is_ping_due, is_reading, is_served, is_silent, is_stray, is_to_renew, keeps_image, let_go, loads, looks, may_campaign, notes, on_fail, on_find, on_find_image, on_finish, on_give, on_join, on_lapse, on_miss, on_part, on_refuse, on_renewal, on_see, on_settle_image, on_stand, on_wake, on_win, on_write, pinged, pinged_of, reads_batches, reads_image, refuses, renewal_of, renews, resigns, serves, serves_none, settles_campaign, stands_for, ticks, tries, wants_image, with_beat, with_bytes, with_ping_answer}
 use Rattle.law_timed_links.proofs.DeedEffects.{all_both, either}
 
 -- ---- tokens that were put out are below the next one

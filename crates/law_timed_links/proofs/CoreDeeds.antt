@@ -1,11 +1,11 @@
 -- What the deeds of a core come to, by what comes to it: of what is under way from its daemon, the epochs that it won, and the append under
 -- way.
-use Rattle.std.proofs.Common.{◌≡◌, ◌∙◌, sym, ℕ, ◌+◌, Bool, true, false, cond, List, [], ◌∷◌, ◌++◌, refl, ap, inl}
+use Rattle.std.proofs.Common.{◌≡◌, ◌∙◌, ℕ, ◌+◌, cond, List, [], ◌∷◌, ◌++◌, refl, inl}
 use Rattle.std.specs.Prelude.{fold, nat_eq, nat_lt, ◌&&◌}
 use Rattle.std.specs.List.{AllByRecursion}
 use Rattle.law_quorum.specs.Batches.{Batch, StoredImage}
 use Rattle.law_link.specs.Links.{Call, Has, Held, Link}
-use Rattle.law_core.specs.Core.{Appended, CallDrop, Came, Deed, Elected, Found, FoundImage, HandBatch, HandCommit, HandImage, HandLead, HandLost, Hear, Hold, Imaged, Joined, Leading, LinkCore, Outcome, Over, Pass, Resign, Role, Serve, Standby, Stood, Won, after_asking, after_lead_when_fed, append_group, asking, becomes, core_step, end_of, leading, on_appended, on_batch, on_found, on_found_image, on_over, on_stood, on_won, resigning}
+use Rattle.law_core.specs.Core.{Appended, CallDrop, Came, Deed, Elected, Found, FoundImage, HandBatch, HandCommit, HandImage, HandLead, Hear, Hold, Imaged, Joined, Leading, LinkCore, Outcome, Over, Pass, Role, Serve, Standby, Stood, Won, after_asking, after_lead_when_fed, asking, becomes, core_step, end_of, leading, on_appended, on_batch, on_found, on_found_image, on_over, on_stood, on_won, resigning}
 use Rattle.law_timed_links.proofs.DeedEffects.{IsNoServe, calls_stay, either, link_with}
 
 -- it neither takes from the pipe nor wins a campaign

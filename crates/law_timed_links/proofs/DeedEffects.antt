@@ -1,12 +1,10 @@
 -- What a core's deeds do: to its link and to what is under way to its daemon; and nothing to another node.
-use Rattle.std.proofs.Common.{◌≡◌, ◌∙◌, sym, ℕ, Bool, true, false, cond, List, [], ◌∷◌, ◌++◌, refl, ap, subst, arith, inl, inr}
+use Rattle.std.proofs.Common.{◌≡◌, ◌∙◌, sym, ℕ, Bool, true, false, cond, List, [], ◌∷◌, ◌++◌, refl, ap, arith, inl, inr}
 use Rattle.std.proofs.lemmas.Bool.Decides.{nat_tests}
 use Rattle.std.proofs.lemmas.List.{append_assoc, append-nil}
-use Rattle.std.specs.Prelude.{Some, None, nat_eq, flat_map, fold}
+use Rattle.std.specs.Prelude.{Some, nat_eq, flat_map, fold}
 use Rattle.std.specs.List.{AllByRecursion}
-use Rattle.law_quorum.specs.Batches.{Batch, StoredImage, behind}
-use Rattle.law_quorum.specs.Nodes as moves
-use Rattle.law_quorum.specs.Nodes.{Cluster, moved}
+use Rattle.law_quorum.specs.Batches.{Batch, behind}
 use Rattle.law_link.specs.Frames.{Act, Commit, Feed, Frame, Lead, Load, Lost, Network, daemons_of, network_after}
 use Rattle.law_link.specs.Links.{Call, Has, Keep, Link, idle}
 use Rattle.law_core.specs.Core.{CallAppend, CallDrop, Deed, HandBatch, HandCommit, HandImage, HandLead, HandLost, Hear, Hold, Pass, Resign, Serve, frames_with}

@@ -1,12 +1,11 @@
 -- A run of two links, computed. Node 0's link leads and calls for an append of what its daemon wrote; its lease ends, and node 1's link
 -- wins the next campaign. So the append reaches the store too late and changes nothing, the first link gives up, and what node 1's daemon
 -- wrote stands in the log; it is told so twice.
-use Rattle.std.proofs.Common.{◌≡◌, ℕ, zero, suc, ◌+◌, List, [], ◌∷◌, refl, inl, inr, arith}
-use Rattle.std.specs.Prelude.{None, Some, false, fold}
+use Rattle.std.proofs.Common.{◌≡◌, ℕ, zero, suc, ◌+◌, List, [], ◌∷◌, refl, inl, arith}
+use Rattle.std.specs.Prelude.{None, false, fold}
 use Rattle.law_quorum.specs.Batches.{Batch}
 use Rattle.law_quorum.specs.Changes.{Append, Campaign, Expire}
 use Rattle.law_link.specs.Frames.{Commit, Lead, Lost}
-use Rattle.kr_link.specs.declared.actions.Action.{Action}
 use Rattle.kr_link.specs.declared.actions.Action.TheVariants as actions
 use Rattle.kr_link.specs.declared.actions.DaemonFrame.TheVariants as frames
 use Rattle.kr_link.specs.declared.actions.Guard.{Guard}
@@ -101,44 +100,115 @@ run =
 
 may_follow : (make : List Batch → List ℕ) → AllMayFollow make name (timed_start settings) run
 unfolding first_link on_join serves pinged on_refuse is_served is_ping_answer with_ping_answer looks let_go closes gives_up on_see is_looking notes considers wants_image asks_image places_of follows is_follower is_below_image is_below_end reads_image reads_batches stands_for may_campaign campaigning on_win settles_campaign campaign_of admits holds_any holds resigns on_write is_stray hears on_fail is_awaited on_stand commits
-may_follow make =
-    (refl,
-    (refl,
-    (tt,
-    (refl,
-    (tt,
-    (refl,
-    ((inl refl, (1, refl)),
-    ((record { leadership = record { node = 0; token = 1; epoch = 1; made = 1; start = []; wrote = [] }; found = refl; holder = refl; key = refl; began = refl }, refl),
-    (refl,
-    (refl,
-    (record { leads = refl; base = refl; some = omega arith },
-    (([], refl),
-    (refl,
-    (tt,
-    (refl,
-    (refl,
-    (tt,
-    (refl,
-    (tt,
-    (refl,
-    ((inl refl, (2, refl)),
-    ((inl refl, refl),
-    (tt,
-    (refl,
-    (refl,
-    (refl,
-    ((record { leadership = record { node = 1; token = 1; epoch = 2; made = 3; start = []; wrote = [] }; found = refl; holder = refl; key = refl; began = refl }, refl),
-    (refl,
-    (refl,
-    (record { leads = refl; base = refl; some = omega arith },
-    (([], refl),
-    (refl,
-    ((inl refl, refl),
-    (record { life = 0; guard = second_guard; first = two; others = []; was_done = inl refl; key = refl; at = refl; seen = record { before = []; after = []; split = refl; begins = refl } },
-    (record { life = 0; guard = second_guard; first = two; others = []; was_done = inl refl; key = refl; at = refl; seen = record { before = []; after = []; split = refl; begins = refl } },
-    (refl,
-    (refl, tt)))))))))))))))))))))))))))))))))))))
+may_follow make = (
+  refl,
+  (
+    refl,
+    (
+      tt,
+      (
+        refl,
+        (
+          tt,
+          (
+            refl,
+            (
+              (inl refl, (1, refl)),
+              (
+                (record { leadership = record { node = 0; token = 1; epoch = 1; made = 1; start = []; wrote = [] }; found = refl; holder = refl; key = refl; began = refl }, refl),
+                (
+                  refl,
+                  (
+                    refl,
+                    (
+                      record { leads = refl; base = refl; some = omega arith },
+                      (
+                        ([], refl),
+                        (
+                          refl,
+                          (
+                            tt,
+                            (
+                              refl,
+                              (
+                                refl,
+                                (
+                                  tt,
+                                  (
+                                    refl,
+                                    (
+                                      tt,
+                                      (
+                                        refl,
+                                        (
+                                          (inl refl, (2, refl)),
+                                          (
+                                            (inl refl, refl),
+                                            (
+                                              tt,
+                                              (
+                                                refl,
+                                                (
+                                                  refl,
+                                                  (
+                                                    refl,
+                                                    (
+                                                      (record { leadership = record { node = 1; token = 1; epoch = 2; made = 3; start = []; wrote = [] }; found = refl; holder = refl; key = refl; began = refl }, refl),
+                                                      (
+                                                        refl,
+                                                        (
+                                                          refl,
+                                                          (
+                                                            record { leads = refl; base = refl; some = omega arith },
+                                                            (
+                                                              ([], refl),
+                                                              (
+                                                                refl,
+                                                                (
+                                                                  (inl refl, refl),
+                                                                  (
+                                                                    record { life = 0; guard = second_guard; first = two; others = []; was_done = inl refl; key = refl; at = refl; seen = record { before = []; after = []; split = refl; begins = refl } },
+                                                                    (
+                                                                      record { life = 0; guard = second_guard; first = two; others = []; was_done = inl refl; key = refl; at = refl; seen = record { before = []; after = []; split = refl; begins = refl } },
+                                                                      (
+                                                                        refl,
+                                                                        (refl, tt),
+                                                                      ),
+                                                                    ),
+                                                                  ),
+                                                                ),
+                                                              ),
+                                                            ),
+                                                          ),
+                                                        ),
+                                                      ),
+                                                    ),
+                                                  ),
+                                                ),
+                                              ),
+                                            ),
+                                          ),
+                                        ),
+                                      ),
+                                    ),
+                                  ),
+                                ),
+                              ),
+                            ),
+                          ),
+                        ),
+                      ),
+                    ),
+                  ),
+                ),
+              ),
+            ),
+          ),
+        ),
+      ),
+    ),
+  ),
+)
 
 -- the log has what node 1's daemon wrote, and the other's isn't there
 log_then : (fold timed_after (timed_start settings) run).cluster.point.log ≡ two ∷ []

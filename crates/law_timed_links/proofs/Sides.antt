@@ -1,24 +1,24 @@
 -- What a run of links by their clocks has of a node, beside what a run of cores has of it; and that both stay together where a core is told
 -- what came, and where its link puts out what is beside the log.
-use Rattle.std.proofs.Common.{◌≡◌, ◌∙◌, sym, ℕ, ◌<◌, Bool, true, false, cond, List, [], ◌∷◌, ◌++◌, refl, ap, subst}
-use Rattle.std.proofs.lemmas.List.{append_assoc, append-nil}
+use Rattle.std.proofs.Common.{◌≡◌, ◌∙◌, sym, ℕ, ◌<◌, Bool, false, cond, List, [], ◌∷◌, ◌++◌, refl, ap, subst}
+use Rattle.std.proofs.lemmas.List.{append_assoc}
 use Rattle.std.proofs.lemmas.List.Concat.{flat_map-append}
 use Rattle.std.specs.Prelude.{flat_map, fold, nat_eq}
 use Rattle.std.specs.List.{AllByRecursion}
 use Rattle.law_quorum.specs.Batches.{Batch, StoredImage}
-use Rattle.law_quorum.specs.Nodes.{Cluster, Renew, moved}
+use Rattle.law_quorum.specs.Nodes.{Renew, moved}
 use Rattle.law_link.specs.Frames.{Act, Frame, Network, daemons_of, network_after}
 use Rattle.law_link.specs.Links.{Held, Link}
 use Rattle.law_link.specs.Refusals.{AllRise, Rises}
 use Rattle.law_link.proofs.LinkSteps.{all_map}
-use Rattle.law_core.specs.Core.{Appended, Came, Deed, Elected, Found, FoundImage, Hear, Hold, Imaged, Joined, Leading, LinkCore, Over, Pass, Role, Serve, Standby, Stood, Won, core_step, first_core, frames_with, leading, on_appended, on_won, resigning}
+use Rattle.law_core.specs.Core.{Appended, Came, Deed, Elected, Hear, Hold, Joined, Leading, LinkCore, Pass, Role, Serve, Standby, Won, core_step, first_core, frames_with, leading, on_appended, on_won, resigning}
 use Rattle.law_core.specs.Runs.{AllMayCome, Comes, CoreRun, Event, IsRightOf, acts, behind_first, no_run, run_after, step_of}
 use Rattle.law_core.proofs.CoreRuns.{deeds_are_handed}
 use Rattle.kr_link.specs.declared.actions.Action.{Action}
 use Rattle.kr_link.specs.Outgoing.{actions_of}
 use Rattle.law_timed_links.specs.TimedRuns.{LinkedNode, frames_sent}
-use Rattle.law_timed_links.proofs.CoreRunEnds.{ComesTo, one_more, run_of, so_too}
-use Rattle.law_timed_links.proofs.DeedEffects.{IsKnown, IsNoServe, all_both, all_frames_stay, all_later, all_linked, all_same_cluster, all_same_images, all_sent, deeds_known, frames_put, known_later, link_with, links_stay, there}
+use Rattle.law_timed_links.proofs.CoreRunEnds.{run_of}
+use Rattle.law_timed_links.proofs.DeedEffects.{IsKnown, all_both, all_frames_stay, all_later, all_linked, all_same_cluster, all_same_images, all_sent, deeds_known, frames_put, known_later, link_with, links_stay, there}
 use Rattle.law_timed_links.proofs.CoreDeeds.{AreQuiet, IsAsked, IsNoJoin, IsQuiet, Leaves, TakesFirst, appended, asks, led, leaves, pipe_told, plain, quiet_all, resigned, won_told}
 
 pub record CoreSide : Type 0 where

@@ -11,11 +11,11 @@ use Rattle.law_quorum.specs.Laws.{IsOneLog, IsInOrder}
 use Rattle.law_quorum.specs.NodeLaws.{IsFedNode}
 use Rattle.law_quorum.specs.Nodes.{Cluster, Renew, Store, Write, moved}
 use Rattle.law_link.specs.Frames.{Act, Arrive, Commit, Emit, Feed, Frame, Lead, Load, Lost, MaySnapshot, Network, Snapshot, daemons_of, emitted, leads_epoch, move_of, network_after, no_network, set_at}
-use Rattle.law_link.specs.Links.{Call, Clear, Execute, Has, Held, IsFree, Keep, Link, Make, MayWrite, TookLeadership, Web, append_of, stepped}
+use Rattle.law_link.specs.Links.{Call, Clear, Execute, Has, IsFree, Keep, Make, MayWrite, TookLeadership, append_of, stepped}
 use Rattle.law_link.proofs.LateFrames.{IsNetwork, at_node, first_network, networks_right}
 use Rattle.law_link.proofs.LinkSteps.{has_all}
 use Rattle.law_core.specs.Core.{Found, FoundImage, Imaged, Over, Stood, Won}
-use Rattle.law_core.specs.Runs.{CoreRun, Happens, IsRightOf, WasSeen, all_steps, no_run, run_after}
+use Rattle.law_core.specs.Runs.{CoreRun, Happens, IsRightOf, all_steps, no_run}
 use Rattle.law_core.proofs.CoreRuns.{cores_keep_the_rules}
 use Rattle.kr_link.specs.declared.actions.Action.{Action}
 use Rattle.kr_link.specs.declared.actions.Action.TheVariants as actions
@@ -32,7 +32,7 @@ use Rattle.law_timed_links.specs.TimedRuns.{AllMayFollow, Arrives, Calls, CallsF
 use Rattle.law_timed_links.proofs.CoreRunEnds.{ComesTo, network_is, one_more, run_of, so_too}
 use Rattle.law_timed_links.proofs.DeedEffects.{IsKnown, IsOwnAppend}
 use Rattle.law_timed_links.proofs.Campaigns.{Goes, IsBelow, IsNoWin, answered, awaits_after, goes, unanswered, was_awaited}
-use Rattle.law_timed_links.proofs.Sides.{AreSides, LinkSide, core_side, joined_side, link_side, side_of}
+use Rattle.law_timed_links.proofs.Sides.{AreSides, LinkSide, core_side, link_side, side_of}
 use Rattle.law_timed_links.proofs.CallSides.{AreAt, joined_at, joins_at, plain_at, win_at, wrote_at}
 use Rattle.law_timed_links.proofs.WonEpochs.{IsCalledIn, IsCounted, above_won, called_right, done_right, restarted_right, stored_right, won_right}
 
@@ -175,7 +175,7 @@ module _ (make : List Batch → List ℕ) (name : ℕ → ℕ → ℕ) (names : 
         won_once : (it : LinkCampaign) → campaign_of l token ≡ Some it → IsRightOf make (run_of at_first.events).network k (Won (held_of held))
         won_once it e = (
           λ has. (let low : held.epoch < held.epoch =
-            has_all (λ (y : ℕ). y < held.epoch) held.epoch (b.won k) (above it e).0 (subst (λ (w : List ℕ). Has held.epoch w) at_first.sides.0.won has) in absurd (omega (arith, low))),
+              has_all (λ (y : ℕ). y < held.epoch) held.epoch (b.won k) (above it e).0 (subst (λ (w : List ℕ). Has held.epoch w) at_first.sides.0.won has) in absurd (omega (arith, low))),
           subst (λ (q : Cluster). TookLeadership q.point.leaderships k (held_of held)) (sym at_first.cluster) took,
         )
 

@@ -1,11 +1,11 @@
 -- The epochs that a node's links won, and its campaigns: each one that is awaited takes, if any, an epoch above them all.
-use Rattle.std.proofs.Common.{◌≡◌, ◌∙◌, sym, ℕ, ◌+◌, ◌<◌, ◌≤◌, Bool, true, false, cond, List, [], ◌∷◌, ◌++◌, refl, ap, subst, arith, inl, inr, ◌⊎◌}
+use Rattle.std.proofs.Common.{◌≡◌, ◌∙◌, sym, ℕ, ◌+◌, ◌<◌, ◌≤◌, Bool, true, false, cond, List, [], ◌∷◌, refl, ap, subst, arith, inl, inr, ◌⊎◌}
 use Rattle.std.proofs.lemmas.Bool.{eqb-true}
 use Rattle.std.specs.Option.{unwrap_or}
-use Rattle.std.specs.Prelude.{None, Option, Some, ◌&&◌, nat_eq}
+use Rattle.std.specs.Prelude.{None, Option, Some, nat_eq}
 use Rattle.std.specs.List.{AllByRecursion}
-use Rattle.law_quorum.specs.Batches.{Batch, StoredImage}
-use Rattle.law_quorum.specs.Changes.{Append, Campaign, Change, Drop, Expire, Keys, Other, compares, is_leaderless, keys_written, with_revision}
+use Rattle.law_quorum.specs.Batches.{Batch}
+use Rattle.law_quorum.specs.Changes.{Append, Campaign, Change, Drop, Expire, Other, compares, is_leaderless, keys_written, with_revision}
 use Rattle.law_quorum.specs.History.{Leadership, Point, leaderships_after, point_after, with_wrote}
 use Rattle.law_quorum.proofs.KeptLog.{both}
 use Rattle.law_link.specs.Links.{Has, Held, TookLeadership, leadership_at}
