@@ -103,7 +103,7 @@ module _ (make : List Batch → List ℕ) (k : ℕ) (sides : ℕ → LinkSide) w
   again_known l Standby a = tt
   again_known l (Elected h) a = tt
   again_known l (Leading h [] waits) a = tt
-  again_known l (Leading h (b ∷ bs) waits) a = (record { call = record { epoch = h.epoch; made = h.made; group = b ∷ bs }; has = a; key = refl; batches = refl }, tt)
+  again_known l (Leading h (b ∷ bs) waits) a = ((record { call = record { epoch = h.epoch; made = h.made; group = b ∷ bs }; has = a; key = refl; batches = refl }, refl), tt)
 
   beside_silent : (action : Action) → flat_map frames_sent (filter is_beside (action ∷ [])) ≡ []
   beside_silent (actions.Send frames.Ping) = refl

@@ -5,6 +5,7 @@ use Rattle.std.proofs.lemmas.List.{append_assoc, append-nil}
 use Rattle.std.specs.Prelude.{Some, nat_eq, flat_map, fold}
 use Rattle.std.specs.List.{AllByRecursion}
 use Rattle.law_quorum.specs.Batches.{Batch, behind}
+use Rattle.law_quorum.specs.Changes.{base_of_first}
 use Rattle.law_link.specs.Frames.{Act, Commit, Feed, Frame, Lead, Load, Lost, Network, daemons_of, network_after}
 use Rattle.law_link.specs.Links.{Call, Has, Keep, Link, idle}
 use Rattle.law_core.specs.Core.{CallAppend, CallDrop, Deed, HandBatch, HandCommit, HandImage, HandLead, HandLost, Hear, Hold, Pass, Resign, Serve, frames_with}
@@ -12,6 +13,7 @@ use Rattle.law_core.specs.Runs.{acts, step_of}
 use Rattle.kr_link.specs.declared.actions.Action.{Action}
 use Rattle.kr_link.specs.declared.actions.Action.TheVariants as actions
 use Rattle.kr_link.specs.Outgoing.{actions_of}
+use Rattle.law_timed_links.specs.TimedLaws.{IsExact}
 use Rattle.law_timed_links.specs.TimedRuns.{frames_sent}
 
 -- ---- what is set at a node
@@ -153,16 +155,17 @@ pub record IsOwnAppend (calls : List Call) (made : ℕ) (group : List Batch) : T
 
 -- that the link calls for such a change is known
 abbrev pub IsKnownBy : List Call → List Keep → Action → Type 0
-IsKnownBy calls keeps (actions.Append guard batches) = IsOwnAppend calls guard.made batches
-IsKnownBy calls keeps (actions.DropBatches before below image) = Has (record { before = before; image = image }) keeps
+IsKnownBy calls keeps (actions.Append guard batches) = IsOwnAppend calls guard.made batches × (guard.end ≡ base_of_first batches)
+IsKnownBy calls keeps (actions.DropBatches before below image) = Has (record { before = before; image = image }) keeps × (below ≡ image.offset)
 IsKnownBy calls keeps other = Unit {0}
 
 abbrev pub IsKnown : Link → Action → Type 0
 IsKnown l action = IsKnownBy l.calls l.keeps action
 
 known_stays : (rest : List Batch) (l : Link) (deed : Deed) (action : Action) → IsKnown l action → IsKnown (link_with rest l deed) action
-known_stays rest l deed (actions.Append guard batches) h = record { call = h.call; has = call_stays rest l deed h.call h.has; key = h.key; batches = h.batches }
-known_stays rest l deed (actions.DropBatches before below image) h = keep_stays rest l deed (record { before = before; image = image }) h
+known_stays rest l deed (actions.Append guard batches) (h, exact) =
+    (record { call = h.call; has = call_stays rest l deed h.call h.has; key = h.key; batches = h.batches }, exact)
+known_stays rest l deed (actions.DropBatches before below image) (h, exact) = (keep_stays rest l deed (record { before = before; image = image }) h, exact)
 known_stays rest l deed other h = tt
 
 pub known_later : (rest : List Batch) (l : Link) (deeds : List Deed) (action : Action) → IsKnown l action → IsKnown (fold (link_with rest) l deeds) action
@@ -171,8 +174,8 @@ known_later rest l (deed ∷ deeds) action h = known_later rest (link_with rest 
 
 deed_known : (rest : List Batch) (l : Link) (deed : Deed) → AllByRecursion (IsKnown (link_with rest l deed)) (actions_of deed)
 deed_known rest l (CallAppend h group waits) =
-    (record { call = record { epoch = h.epoch; made = h.made; group = group }; has = inl refl; key = refl; batches = refl }, tt)
-deed_known rest l (CallDrop before image) = (inl refl, tt)
+    ((record { call = record { epoch = h.epoch; made = h.made; group = group }; has = inl refl; key = refl; batches = refl }, refl), tt)
+deed_known rest l (CallDrop before image) = ((inl refl, refl), tt)
 deed_known rest l (HandBatch b) = (tt, tt)
 deed_known rest l (HandImage image) = (tt, tt)
 deed_known rest l (HandLead h) = (tt, tt)
@@ -191,3 +194,8 @@ deeds_known rest l [] = tt
 deeds_known rest l (deed ∷ deeds) =
     all_both (IsKnown (fold (link_with rest) (link_with rest l deed) deeds)) (actions_of deed) (flat_map actions_of deeds)
     (all_later rest (link_with rest l deed) deeds (actions_of deed) (deed_known rest l deed)) (deeds_known rest (link_with rest l deed) deeds)
+
+pub exact : (l : Link) (action : Action) → IsKnown l action → IsExact action
+exact l (actions.Append guard batches) (h, same) = same
+exact l (actions.DropBatches before below image) (h, same) = same
+exact l other h = tt

@@ -13,7 +13,7 @@ use Rattle.law_quorum.specs.Nodes.{Cluster, Renew, Store, Write, moved}
 use Rattle.law_link.specs.Frames.{Act, Arrive, Commit, Emit, Feed, Frame, Lead, Load, Lost, MaySnapshot, Network, Snapshot, daemons_of, emitted, leads_epoch, move_of, network_after, no_network, set_at}
 use Rattle.law_link.specs.Links.{Call, Clear, Execute, Has, IsFree, Keep, Make, MayWrite, TookLeadership, append_of, stepped}
 use Rattle.law_link.proofs.LateFrames.{IsNetwork, at_node, first_network, networks_right}
-use Rattle.law_link.proofs.LinkSteps.{has_all}
+use Rattle.law_link.proofs.LinkSteps.{all_map, has_all}
 use Rattle.law_core.specs.Core.{Found, FoundImage, Imaged, Over, Stood, Won}
 use Rattle.law_core.specs.Runs.{CoreRun, Happens, IsRightOf, all_steps, no_run}
 use Rattle.law_core.proofs.CoreRuns.{cores_keep_the_rules}
@@ -27,10 +27,10 @@ use Rattle.kr_link.specs.LinkMoves as calls
 use Rattle.kr_link.specs.Roles.{held_of}
 use Rattle.kr_link.specs.TimedLinks.{TimedLink, campaign_of, first_link}
 use Rattle.kr_link.proofs.LinkMoves.{calls_are_moves}
-use Rattle.law_timed_links.specs.TimedLaws.{AreNames, IsRunOfCores, KeepsOneLog, TimedLinksAreCores, TimedLinksKeepOneLog}
+use Rattle.law_timed_links.specs.TimedLaws.{AreNames, IsExact, IsRunOfCores, KeepsOneLog, TimedLinksAreCores, TimedLinksKeepOneLog}
 use Rattle.law_timed_links.specs.TimedRuns.{AllMayFollow, Arrives, Calls, CallsFor, Changes, Gives, IsRightCall, IsSeenAppend, IsUncalled, LinkedNode, MayFollow, Reaches, Restarts, Takes, TimedEvent, TimedRun, Writes, called, cluster_moves, timed_start, frames_sent, restarted, timed_after, with_done}
 use Rattle.law_timed_links.proofs.CoreRunEnds.{ComesTo, network_is, one_more, run_of, so_too}
-use Rattle.law_timed_links.proofs.DeedEffects.{IsKnown, IsOwnAppend}
+use Rattle.law_timed_links.proofs.DeedEffects.{IsKnown, IsOwnAppend, exact}
 use Rattle.law_timed_links.proofs.Campaigns.{Goes, IsBelow, IsNoWin, answered, awaits_after, goes, unanswered, was_awaited}
 use Rattle.law_timed_links.proofs.Sides.{AreSides, LinkSide, core_side, link_side, side_of}
 use Rattle.law_timed_links.proofs.CallSides.{AreAt, joined_at, joins_at, plain_at, win_at, wrote_at}
@@ -118,7 +118,7 @@ module _ (make : List Batch → List ℕ) (name : ℕ → ℕ → ℕ) (names : 
       stood_right made base seen =
           let n = (run_of at_first.events).network in
           let own : IsOwnAppend (n.web.links k).calls seen.guard.made (seen.first ∷ seen.others) =
-          has_all (λ (e : ℕ × Action). IsKnown (n.web.links k) e.1) (seen.life, actions.Append seen.guard (seen.first ∷ seen.others)) x.done at_first.sides.0.done seen.was_done in
+          (has_all (λ (e : ℕ × Action). IsKnown (n.web.links k) e.1) (seen.life, actions.Append seen.guard (seen.first ∷ seen.others)) x.done at_first.sides.0.done seen.was_done).0 in
           record {
             call = own.call;
             has = own.has;
@@ -350,7 +350,7 @@ module _ (make : List Batch → List ℕ) (name : ℕ → ℕ → ℕ) (names : 
     reaches k life (actions.Append guard batches) change has is =
         let n = (run_of b.cores.events).network in
         let own : IsOwnAppend (n.web.links k).calls guard.made batches =
-        has_all (λ (e : ℕ × Action). IsKnown (n.web.links k) e.1) (life, actions.Append guard batches) (t.nodes k).done (b.cores.sides k).done has in
+        (has_all (λ (e : ℕ × Action). IsKnown (n.web.links k) e.1) (life, actions.Append guard batches) (t.nodes k).done (b.cores.sides k).done has).0 in
         let same : append_of own.call ≡ change =
         ap (λ (made : ℕ). Append made own.call.group) own.key ∙ (ap (λ (group : List Batch). Append guard.made group) own.batches ∙ sym is) in
         stored change
@@ -359,7 +359,7 @@ module _ (make : List Batch → List ℕ) (name : ℕ → ℕ → ℕ) (names : 
     reaches k life (actions.DropBatches before below image) change has is =
         let n = (run_of b.cores.events).network in
         let kept : Has (record { before = before; image = image }) (n.web.links k).keeps =
-        has_all (λ (e : ℕ × Action). IsKnown (n.web.links k) e.1) (life, actions.DropBatches before below image) (t.nodes k).done (b.cores.sides k).done has in
+        (has_all (λ (e : ℕ × Action). IsKnown (n.web.links k) e.1) (life, actions.DropBatches before below image) (t.nodes k).done (b.cores.sides k).done has).0 in
         stored change
         (so_too make (moved c (Store (Drop before image))) (moved c (Store change)) (AllSides t.nodes b.won) (AllSides t.nodes b.won) (clears k (record { before = before; image = image }) kept)
         (ap (λ (y : Change). moved c (Store y)) (sym is)) (λ a. a)) (λ j. subst (λ (y : Change). IsCalledIn name j (t.nodes j).done y) (sym is) tt)
@@ -410,7 +410,16 @@ module _ (make : List Batch → List ℕ) (name : ℕ → ℕ → ℕ) (names : 
     may = b.cores.may;
     rise = b.cores.rise;
     cluster = b.cores.cluster;
-    nodes = λ k. record { core = (b.cores.sides k).core; frames = (b.cores.sides k).frames; pipe = (b.cores.sides k).pipe; images = (b.cores.sides k).images };
+    nodes = λ k.
+        let a = b.cores.sides k in
+        let link = (run_of b.cores.events).network.web.links k in
+        record {
+          core = a.core;
+          frames = a.frames;
+          pipe = a.pipe;
+          images = a.images;
+          done = all_map (λ (e : ℕ × Action). IsKnown link e.1) (λ (e : ℕ × Action). IsExact e.1) (λ e h. exact link e.1 h) (t.nodes k).done a.done;
+        };
   }
 
 -- ---- the laws
