@@ -6,6 +6,7 @@ use Rattle.std.specs.Prelude.{Some, nat_eq, flat_map, fold}
 use Rattle.std.specs.List.{AllByRecursion}
 use Rattle.law_quorum.specs.Batches.{Batch, behind}
 use Rattle.law_quorum.specs.Changes.{base_of_first}
+use Rattle.law_quorum.specs.Nodes as nodes
 use Rattle.law_link.specs.Frames.{Act, Commit, Feed, Frame, Lead, Load, Lost, Network, daemons_of, network_after}
 use Rattle.law_link.specs.Links.{Call, Has, Keep, Link, idle}
 use Rattle.law_core.specs.Core.{CallAppend, CallDrop, Deed, HandBatch, HandCommit, HandImage, HandLead, HandLost, Hear, Hold, Pass, Resign, Serve, frames_with}
@@ -104,6 +105,20 @@ module _ (k : ℕ) (rest : List Batch) where
     frames_stay n (HandCommit h end) = not_there (n.frames k ++ Commit h.epoch (behind (n.web.cluster.nodes k).end (n.web.links k).asked) ∷ []) (n.frames j)
     frames_stay n (HandLost h) = not_there (n.frames k ++ Lost h.epoch ∷ []) (n.frames j)
     frames_stay n deed = refl
+
+    -- as the links see it
+    node_stays : (n : Network) (deed : Deed) → (after n deed).web.cluster.nodes j ≡ n.web.cluster.nodes j
+    node_stays n (HandBatch b) = not_there (nodes.fed (n.web.cluster.nodes k) b) (n.web.cluster.nodes j)
+    node_stays n (HandImage image) = not_there (nodes.loaded (n.web.cluster.nodes k) image) (n.web.cluster.nodes j)
+    node_stays n (HandLead h) = not_there (nodes.told_to_lead (n.web.cluster.nodes k) h.epoch) (n.web.cluster.nodes j)
+    node_stays n (HandCommit h end) = not_there (nodes.committed (n.web.cluster.nodes k) (behind (n.web.cluster.nodes k).end (n.web.links k).asked)) (n.web.cluster.nodes j)
+    node_stays n (HandLost h) = not_there (nodes.after_loss (n.web.cluster.nodes k)) (n.web.cluster.nodes j)
+    node_stays n Serve = not_there nodes.new_node (n.web.cluster.nodes j)
+    node_stays n deed = refl
+
+    pub nodes_stay : (n : Network) (deeds : List Deed) → (fold network_after n (acts k rest deeds)).web.cluster.nodes j ≡ n.web.cluster.nodes j
+    nodes_stay n [] = refl
+    nodes_stay n (deed ∷ deeds) = nodes_stay (after n deed) deeds ∙ node_stays n deed
 
     pub links_stay : (n : Network) (deeds : List Deed) → (fold network_after n (acts k rest deeds)).web.links j ≡ n.web.links j
     links_stay n [] = refl

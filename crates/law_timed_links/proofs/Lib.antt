@@ -7,3 +7,5 @@ pub mod CallSides
 pub mod Campaigns
 pub mod WonEpochs
 pub mod TimedRuns
+pub mod DaemonEvents
+pub mod RunsOfCores

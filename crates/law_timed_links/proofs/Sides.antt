@@ -1,24 +1,25 @@
 -- What a run of links by their clocks has of a node, beside what a run of cores has of it; and that both stay together where a core is told
 -- what came, and where its link puts out what is beside the log.
-use Rattle.std.proofs.Common.{◌≡◌, ◌∙◌, sym, ℕ, ◌<◌, Bool, false, cond, List, [], ◌∷◌, ◌++◌, refl, ap, subst}
+use Rattle.std.proofs.Common.{◌≡◌, ◌∙◌, sym, ℕ, ◌<◌, Bool, true, false, cond, List, [], ◌∷◌, ◌++◌, refl, ap, subst}
+use Rattle.std.proofs.lemmas.Bool.{eqb-true}
 use Rattle.std.proofs.lemmas.List.{append_assoc}
 use Rattle.std.proofs.lemmas.List.Concat.{flat_map-append}
 use Rattle.std.specs.Prelude.{flat_map, fold, nat_eq}
 use Rattle.std.specs.List.{AllByRecursion}
 use Rattle.law_quorum.specs.Batches.{Batch, StoredImage}
-use Rattle.law_quorum.specs.Nodes.{Renew, moved}
-use Rattle.law_link.specs.Frames.{Act, Frame, Network, daemons_of, network_after}
+use Rattle.law_quorum.specs.Nodes.{Node, Renew, moved}
+use Rattle.law_link.specs.Frames.{Act, AllMayHappen, Frame, Network, daemons_of, network_after}
 use Rattle.law_link.specs.Links.{Held, Link}
 use Rattle.law_link.specs.Refusals.{AllRise, Rises}
 use Rattle.law_link.proofs.LinkSteps.{all_map}
 use Rattle.law_core.specs.Core.{Appended, Came, Deed, Elected, Hear, Hold, Joined, Leading, LinkCore, Pass, Role, Serve, Standby, Won, core_step, first_core, frames_with, leading, on_appended, on_won, resigning}
-use Rattle.law_core.specs.Runs.{AllMayCome, Comes, CoreRun, Event, IsRightOf, acts, behind_first, no_run, run_after, step_of}
-use Rattle.law_core.proofs.CoreRuns.{deeds_are_handed}
+use Rattle.law_core.specs.Runs.{Comes, CoreRun, IsRightOf, acts, behind_first, run_after, step_of, steps_of}
+use Rattle.law_core.proofs.CoreSteps.{Does, IsCore, came_right}
+use Rattle.law_link.proofs.LateFrames.{IsNetwork, networks_right}
 use Rattle.kr_link.specs.declared.actions.Action.{Action}
 use Rattle.kr_link.specs.Outgoing.{actions_of}
 use Rattle.law_timed_links.specs.TimedRuns.{LinkedNode, frames_sent}
-use Rattle.law_timed_links.proofs.CoreRunEnds.{run_of}
-use Rattle.law_timed_links.proofs.DeedEffects.{IsKnown, all_both, all_frames_stay, all_later, all_linked, all_same_cluster, all_same_images, all_sent, deeds_known, frames_put, known_later, link_with, links_stay, there}
+use Rattle.law_timed_links.proofs.DeedEffects.{IsKnown, all_both, all_frames_stay, all_later, all_linked, all_same_cluster, all_same_images, all_sent, deeds_known, frames_put, known_later, link_with, links_stay, nodes_stay, there}
 use Rattle.law_timed_links.proofs.CoreDeeds.{AreQuiet, IsAsked, IsNoJoin, IsQuiet, Leaves, TakesFirst, appended, asks, led, leaves, pipe_told, plain, quiet_all, resigned, won_told}
 
 pub record CoreSide : Type 0 where
@@ -55,6 +56,9 @@ pub record AreSides (v : CoreSide) (s : LinkSide) : Type 0 where
   pub known : AllByRecursion (IsKnown v.link) s.actions
   pub done : AllByRecursion (λ (e : ℕ × Action). IsKnown v.link e.1) s.done
   pub asked : IsAsked s.core.role v.link.calls
+
+abbrev pub AllSides : (ℕ → LinkedNode) → (ℕ → List ℕ) → CoreRun → Type 0
+AllSides nodes won r = (k : ℕ) → AreSides (core_side r k) (link_side (nodes k) (won k))
 
 abbrev pub told_by : LinkCore → LinkSide → Came → LinkSide
 told_by c s came = record {
@@ -128,10 +132,8 @@ module _ (k : ℕ) (came : Came) (r : CoreRun) where
 
 -- ---- a core is told what came
 
-module _ (make : List Batch → List ℕ) (k : ℕ) (events : List Event) (may : AllMayCome make no_run events) where
-  abbrev r : CoreRun
-  r = run_of events
-
+module _ (make : List Batch → List ℕ) (k : ℕ) (r : CoreRun) (net : IsNetwork make r.network)
+    (cores : (j : ℕ) → IsCore (r.cores j) (r.network.web.cluster.nodes j) (r.network.web.links j)) where
   abbrev n : Network
   n = r.network
 
@@ -141,7 +143,29 @@ module _ (make : List Batch → List ℕ) (k : ℕ) (events : List Event) (may :
   abbrev l : Link
   l = n.web.links k
 
-  module _ (came : Came) (free : IsNoJoin came) (right : IsRightOf make (run_of events).network k came) (s : LinkSide) (a : AreSides (core_side (run_of events) k) s) where
+  module _ (came : Came) (right : IsRightOf make r.network k came) where
+    does : Does make k (behind_first l.pipe) n (core_step c came).1 (core_step c came).0
+    does = came_right make k n net c came (cores k) right
+
+    pub may_come : AllMayHappen make r.network (steps_of r (Comes k came))
+    may_come = does.may
+
+    pub network_then : IsNetwork make (run_after r (Comes k came)).network
+    network_then = networks_right make n (acts k (behind_first l.pipe) (core_step c came).1) net does.may
+
+    abbrev next : CoreRun
+    next = run_after r (Comes k came)
+
+    pub cores_then : (j : ℕ) → IsCore ((run_after r (Comes k came)).cores j) ((run_after r (Comes k came)).network.web.cluster.nodes j) ((run_after r (Comes k came)).network.web.links j)
+    cores_then j = by (nat_eq k j) refl
+      where
+        by : (t : Bool) → nat_eq k j ≡ t → IsCore (cond t (core_step c came).0 (r.cores j)) (next.network.web.cluster.nodes j) (next.network.web.links j)
+        by true e = subst (λ (i : ℕ). IsCore (core_step c came).0 (next.network.web.cluster.nodes i) (next.network.web.links i)) (eqb-true k j e) does.core
+        by false e =
+            subst (λ (v : Node). IsCore (r.cores j) v (next.network.web.links j)) (sym (nodes_stay k (behind_first l.pipe) j e n (core_step c came).1))
+            (subst (λ (m : Link). IsCore (r.cores j) (n.web.cluster.nodes j) m) (sym (links_stay k (behind_first l.pipe) j e n (core_step c came).1)) (cores j))
+
+  module _ (came : Came) (free : IsNoJoin came) (right : IsRightOf make r.network k came) (s : LinkSide) (a : AreSides (core_side r k) s) where
     abbrev after : CoreRun
     after = run_after r (Comes k came)
 
@@ -157,7 +181,7 @@ module _ (make : List Batch → List ℕ) (k : ℕ) (events : List Event) (may :
     frames_then : after.network.frames k ≡ s.frames ++ flat_map frames_sent (s.actions ++ flat_map actions_of (core_step c came).1)
     frames_then =
         let deeds = (core_step c came).1 in
-        deeds_are_handed make events k came may right
+        (does came right).handed
         ∙ (frames_put (n.frames k) deeds left.no_serve
         ∙ (ap (λ (fs : List Frame). fs ++ all_sent deeds) a.frames
         ∙ (append_assoc s.frames (flat_map frames_sent s.actions) (all_sent deeds)
@@ -180,10 +204,10 @@ module _ (make : List Batch → List ℕ) (k : ℕ) (events : List Event) (may :
           (asks (behind_first l.pipe) l c came (subst (λ (q : LinkCore). IsAsked q.role l.calls) (sym a.core) a.asked));
     }
 
-    pub told_right : AreSides (core_side (run_after (run_of events) (Comes k came)) k) (told_by s.core s came)
+    pub told_right : AreSides (core_side (run_after r (Comes k came)) k) (told_by s.core s came)
     told_right = subst (λ (q : LinkCore). AreSides (core_side after k) (told_by q s came)) a.core told_sides
 
-    pub told_cluster : daemons_of (run_after (run_of events) (Comes k came)).network ≡ daemons_of (run_of events).network
+    pub told_cluster : daemons_of (run_after r (Comes k came)).network ≡ daemons_of r.network
     told_cluster = all_same_cluster k (behind_first l.pipe) n (core_step c came).1 left.no_serve
 
   -- ---- a new daemon
@@ -203,7 +227,7 @@ module _ (make : List Batch → List ℕ) (k : ℕ) (events : List Event) (may :
   won_resigning x (Elected h) = refl
   won_resigning x (Leading h asked waits) = refl
 
-  module _ (s : LinkSide) (a : AreSides (core_side (run_of events) k) s) (actions : List Action) (silent : flat_map frames_sent actions ≡ [])
+  module _ (s : LinkSide) (a : AreSides (core_side r k) s) (actions : List Action) (silent : flat_map frames_sent actions ≡ [])
       (known : (x : Link) → AllByRecursion (IsKnown x) actions) where
     abbrev joined : CoreRun
     joined = run_after r (Comes k Joined)
@@ -214,10 +238,10 @@ module _ (make : List Batch → List ℕ) (k : ℕ) (events : List Event) (may :
     joined_link : joined.network.web.links k ≡ served
     joined_link = all_linked k (behind_first l.pipe) n (core_step c Joined).1
 
-    pub join_right : AreSides (core_side (run_after (run_of events) (Comes k Joined)) k) (joined_side s actions)
+    pub join_right : AreSides (core_side (run_after r (Comes k Joined)) k) (joined_side s actions)
     join_right = record {
       core = there k (core_step c Joined).0 (r.cores k);
-      frames = deeds_are_handed make events k Joined may tt ∙ (frames_resigning c.role ∙ sym silent);
+      frames = (does Joined tt).handed ∙ (frames_resigning c.role ∙ sym silent);
       pipe = ap (λ (x : Link). x.pipe) joined_link ∙ pipe_resigning (link_with (behind_first l.pipe) l Serve) c.role refl;
       images = ap (λ (images : ℕ → List StoredImage). images k) (all_same_images k (behind_first l.pipe) n (core_step c Joined).1) ∙ a.images;
       won = ap (λ (x : Link). x.won) joined_link ∙ (won_resigning (link_with (behind_first l.pipe) l Serve) c.role ∙ a.won);
@@ -228,5 +252,5 @@ module _ (make : List Batch → List ℕ) (k : ℕ) (events : List Event) (may :
       asked = tt;
     }
 
-  pub join_cluster : daemons_of (run_after (run_of events) (Comes k Joined)).network ≡ moved (daemons_of (run_of events).network) (Renew k)
+  pub join_cluster : daemons_of (run_after r (Comes k Joined)).network ≡ moved (daemons_of r.network) (Renew k)
   join_cluster = all_same_cluster k (behind_first l.pipe) (network_after n (Act (step_of k (behind_first l.pipe) Serve))) (resigning c.role) (quiet_all (resigning c.role) (resigned c.role))

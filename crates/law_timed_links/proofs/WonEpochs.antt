@@ -15,6 +15,7 @@ use Rattle.kr_link.specs.declared.actions.Action.{Action}
 use Rattle.kr_link.specs.declared.actions.Action.TheVariants as actions
 use Rattle.kr_link.specs.declared.campaigns.Campaign.{Campaign as LinkCampaign}
 use Rattle.law_timed_links.specs.TimedLaws.{AreNames}
+use Rattle.law_timed_links.specs.TimedRuns.{LinkedNode}
 use Rattle.law_timed_links.proofs.Campaigns.{IsBelow}
 
 none_some : (it : LinkCampaign) → None ≡ Some it → ⊥
@@ -226,3 +227,7 @@ module _ (name : ℕ → ℕ → ℕ) (k : ℕ) where
           | inl here ↦ subst (λ (x : Leadership). IsPast name k life done awaited won greatest x.node x.token x.epoch) here.1 h
           | inr later ↦ found_all epoch rest m a later.1
         ]
+
+abbrev pub CountedAt : (ℕ → ℕ → ℕ) → Point → ℕ → LinkedNode → List ℕ → Type 0
+CountedAt name p k x won =
+    IsCounted name k p.keys.epoch p.leaderships x.life x.done x.link.campaigns.next x.link.campaigns.under_way x.link.out.actions won
