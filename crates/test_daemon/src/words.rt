@@ -117,7 +117,7 @@ fn line_with_cluster(alloc: Global, len: usize) -> Result<String, AllocError> {
     Ok(line)
 }
 
-fn is_taken(alloc: Global, line: &str) -> Result<bool, AllocError> {
+fn is_accepted(alloc: Global, line: &str) -> Result<bool, AllocError> {
     let read = read(alloc, line)?;
     Ok(read.is_ok())
 }
@@ -131,10 +131,10 @@ fn is_refused(alloc: Global, line: &str) -> Result<bool, AllocError> {
 fn lines_that_are_taken(rt: HostRuntime) -> Result<(), Fail> {
     let alloc = rt.alloc();
     for said in &TAKEN {
-        assert!(rt; is_taken(alloc, said.line)?);
+        assert!(rt; is_accepted(alloc, said.line)?);
     }
     let longest = line_with_cluster(alloc, LONGEST_CLUSTER)?;
-    assert!(rt; is_taken(alloc, longest.as_str())?);
+    assert!(rt; is_accepted(alloc, longest.as_str())?);
     Ok(())
 }
 
