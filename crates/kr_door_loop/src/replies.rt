@@ -32,8 +32,8 @@ fn show_known(alloc: Global, asked: ApiMessageType, message: &[u8]) -> Answer
 }
 
 // The reply to a request of the key with this number, of this version.
-fn show_numbered(alloc: Global, key: &i16, version: &i16, message: &[u8]) -> Answer
-    ensures { ShowsKnown (known_by key.now version.now) message.now result }
+fn show_numbered(alloc: Global, key: i16, version: i16, message: &[u8]) -> Answer
+    ensures { ShowsKnown (known_by key version) message.now result }
 {
     match ApiMessageType::known_by(key, version) {
         Some(asked) => show_known(alloc, asked, message),
@@ -48,7 +48,7 @@ pub(crate) fn show_reply(alloc: Global, body: &[u8]) -> Answer
     match read_api(body) {
         Ok(((key, version), next)) => {
             let (_front, message) = body.split_at(next);
-            show_numbered(alloc, &key, &version, message)
+            show_numbered(alloc, key, version, message)
         }
         Err(_) => Err(DoorRefusal::BadBody),
     }

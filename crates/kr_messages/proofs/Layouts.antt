@@ -9,7 +9,7 @@ use Rattle.kr_wire.specs.Schema.{Int8}
 use Rattle.kr_wire.proofs.Lists.{list_law, list_or_null_law}
 use Rattle.kr_wire.proofs.ReadingLaws.{Law, ◌before◌}
 use Rattle.kr_wire.proofs.Schemas as wires
-use Rattle.kr_messages.specs.Layouts.{Is, Layout, is_readable, value_at}
+use Rattle.kr_messages.specs.Layouts.{Encodes, PartLayout, decoded_at, is_decodable}
 use Rattle.kr_messages.specs.Layouts as layouts
 
 -- ---- a value takes a byte at least
@@ -33,22 +33,22 @@ structure_or_null_long : {X : Type 0} (One : X → List ℕ → Type 0) (o : Opt
 structure_or_null_long One None bytes is = wires.not_empty Int8 (negsuc 0) bytes is
 structure_or_null_long One (Some x) bytes is = longer bytes is.left is.right is.is (wires.not_empty Int8 (pos 1) is.left is.first)
 
-not_empty : {X : Type 0} (l : Layout X) (x : X) (bytes : List ℕ) → Is l x bytes → 0 < length bytes
+not_empty : {X : Type 0} (l : PartLayout X) (x : X) (bytes : List ℕ) → Encodes l x bytes → 0 < length bytes
 not_empty (layouts.Plain s) x bytes is = wires.not_empty s x bytes is
-not_empty (layouts.StructureOrNull l) x bytes is = structure_or_null_long (Is l) x bytes is
-not_empty (layouts.Array l) x bytes is = list_long (Is l) x bytes is
-not_empty (layouts.ArrayOrNull l) x bytes is = list_or_null_long (Is l) x bytes is
+not_empty (layouts.StructureOrNull l) x bytes is = structure_or_null_long (Encodes l) x bytes is
+not_empty (layouts.Array l) x bytes is = list_long (Encodes l) x bytes is
+not_empty (layouts.ArrayOrNull l) x bytes is = list_or_null_long (Encodes l) x bytes is
 not_empty (layouts.Both a b) x bytes is = longer bytes is.left is.right is.is (not_empty a x.0 is.left is.first)
 
 -- ---- the laws
 
-both_readable : (a b : Bool) → (a && b) ≡ true → (a ≡ true) × (b ≡ true)
-both_readable true b e = (refl, e)
-both_readable false b e = absurd cc
+both_decodable : (a b : Bool) → (a && b) ≡ true → (a ≡ true) × (b ≡ true)
+both_decodable true b e = (refl, e)
+both_decodable false b e = absurd cc
 
-pub law : {X : Type 0} (l : Layout X) → is_readable l ≡ true → Law (Is l) (value_at l)
+pub law : {X : Type 0} (l : PartLayout X) → is_decodable l ≡ true → Law (Encodes l) (decoded_at l)
 law (layouts.Plain s) e = wires.law s e
 law (layouts.StructureOrNull l) e = structure_or_null_law (law l e)
 law (layouts.Array l) e = list_law (law l e) (not_empty l)
 law (layouts.ArrayOrNull l) e = list_or_null_law (law l e) (not_empty l)
-law (layouts.Both a b) e = let h = both_readable (is_readable a) (is_readable b) e in law a h.0 before law b h.1
+law (layouts.Both a b) e = let h = both_decodable (is_decodable a) (is_decodable b) e in law a h.0 before law b h.1

@@ -10,7 +10,7 @@ use Rattle.kr_messages.specs.declared.fault.MessageFault.TheVariants as faults
 use Rattle.kr_messages.specs.declared.message_type.ApiMessageType.{ApiMessageType}
 use Rattle.kr_messages.specs.Forms.{Form}
 use Rattle.kr_messages.specs.Forms.{bare_form, reply_form}
-use Rattle.kr_messages.specs.Layouts.{Is, is_readable, value_at}
+use Rattle.kr_messages.specs.Layouts.{Encodes, decoded_at, is_decodable}
 use Rattle.kr_messages.specs.Shown.{ShowsReply, ShowsText, StandForNone, response_form, served_form}
 use Rattle.kr_messages.specs.inner.Taken.{ShowsForm, ShowsMessage, ReadsWhole, whole_of}
 use Rattle.kr_messages.proofs.Layouts.{law}
@@ -34,11 +34,11 @@ module _ (f : Form) (bytes : List ℕ) where
   pub rest_left : (all left before out : List ℕ) → all ≡ drop 0 bytes → ShowsForm f (Ok tt) all left before out → (length left == 0) ≡ false → ReadsWhole f bytes (Err faults.BadMessage)
   rest_left all left before out is t some = some_left left before out (subst (λ (l : List ℕ). ShowsForm f (Ok tt) l left before out) is t) some
 
-  not_read : (fault : WireFault) → value_at f.layout bytes ≡ Err fault → ReadsWhole f bytes (Err faults.BadMessage)
+  not_read : (fault : WireFault) → decoded_at f.layout bytes ≡ Err fault → ReadsWhole f bytes (Err faults.BadMessage)
   not_read fault refused = rw refused refl
 
-  pub unread : (all : List ℕ) (fault : WireFault) → all ≡ drop 0 bytes → value_at f.layout all ≡ Err fault → ReadsWhole f bytes (Err faults.BadMessage)
-  unread all fault is refused = not_read fault (subst (λ (l : List ℕ). value_at f.layout l ≡ Err fault) is refused)
+  pub unread : (all : List ℕ) (fault : WireFault) → all ≡ drop 0 bytes → decoded_at f.layout all ≡ Err fault → ReadsWhole f bytes (Err faults.BadMessage)
+  unread all fault is refused = not_read fault (subst (λ (l : List ℕ). decoded_at f.layout l ≡ Err fault) is refused)
 
 -- ---- what the bytes stand for
 
@@ -47,18 +47,18 @@ read_whole (Ok (y, [])) x e = cc
 read_whole (Ok (y, b ∷ left)) x e = absurd cc
 read_whole (Err fault) x e = absurd cc
 
-module _ (f : Form) (bytes : List ℕ) (readable : is_readable f.layout ≡ true) where
-  value_stands : IsBytes bytes → (value : f.Value) → whole_of (value_at f.layout bytes) ≡ Some value → Is f.layout value bytes
+module _ (f : Form) (bytes : List ℕ) (readable : is_decodable f.layout ≡ true) where
+  value_stands : IsBytes bytes → (value : f.Value) → whole_of (decoded_at f.layout bytes) ≡ Some value → Encodes f.layout value bytes
   value_stands fits value is =
-      let front = (law f.layout readable).sound bytes fits value [] (read_whole (value_at f.layout bytes) value is) in
-      subst (λ (l : List ℕ). Is f.layout value l) (sym (front.parts ∙ append-nil front.front)) front.holds
+      let front = (law f.layout readable).sound bytes fits value [] (read_whole (decoded_at f.layout bytes) value is) in
+      subst (λ (l : List ℕ). Encodes f.layout value l) (sym (front.parts ∙ append-nil front.front)) front.holds
 
-  value_found : (value : f.Value) → Is f.layout value bytes → whole_of (value_at f.layout bytes) ≡ Some value
+  value_found : (value : f.Value) → Encodes f.layout value bytes → whole_of (decoded_at f.layout bytes) ≡ Some value
   value_found value stands =
-      let found = subst (λ (l : List ℕ). value_at f.layout l ≡ Ok (value, [])) (append-nil bytes) ((law f.layout readable).complete value bytes [] stands) in
+      let found = subst (λ (l : List ℕ). decoded_at f.layout l ≡ Ok (value, [])) (append-nil bytes) ((law f.layout readable).complete value bytes [] stands) in
       rw found refl
 
-  none_stands : whole_of (value_at f.layout bytes) ≡ None → StandForNone f bytes
+  none_stands : whole_of (decoded_at f.layout bytes) ≡ None → StandForNone f bytes
   none_stands none value stands = let clash = sym (value_found value stands) ∙ none in cc
 
   pub message_shown : IsBytes bytes → (result : Result (List ℕ) MessageFault) → ReadsWhole f bytes result → ShowsMessage f bytes result

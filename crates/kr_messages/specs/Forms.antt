@@ -4,13 +4,13 @@ use Rattle.std.specs.Fmt.{signed_decimal}
 use Rattle.kr_json.specs.JsonText as texts
 use Rattle.kr_wire.specs.Schema.{Schema}
 use Rattle.kr_wire.specs.Schema as schemas
-use Rattle.kr_messages.specs.Layouts.{Layout}
+use Rattle.kr_messages.specs.Layouts.{PartLayout}
 use Rattle.kr_messages.specs.Layouts as layouts
 
 -- the layout of a part's values, and the text of each
 pub record Form : Type 1 where
   pub Value : Type 0
-  pub layout : Layout Value
+  pub layout : PartLayout Value
   pub json : Value → List ℕ
 
 abbrev pub plain_form : {X : Type 0} → Schema X → (X → List ℕ) → Form
@@ -66,7 +66,7 @@ nullable_array_form f = record { Value = Option (List f.Value); layout = layouts
 -- fields one after the other: their layout, and their text as the first ones of an object, or behind others
 pub record FieldForms : Type 1 where
   pub Value : Type 0
-  pub layout : Layout Value
+  pub layout : PartLayout Value
   pub json : Bool → Value → List ℕ
 
 -- what stands before a field's name

@@ -1,4 +1,4 @@
--- Layouts of parts of messages: those of kr_wire, structures that may be null, and lists and sequences of these.
+-- Layouts of parts of messages: those of kr_wire, and structures that may be null.
 use Rattle.std.specs.Prelude.{ℕ, Bool, ◌&&◌, List, Option}
 use Rattle.kr_pages.specs.Nullable.{IsStructureOrNull, structure_or_null_at}
 use Rattle.kr_wire.specs.Grammar.{◌⌢◌, IsList, IsListOrNull}
@@ -7,34 +7,34 @@ use Rattle.kr_wire.specs.Schema.{Schema}
 use Rattle.kr_wire.specs.Schema as schemas
 
 -- the layout of the values of a type
-pub data Layout : Type 0 → Type 1 where
-  Plain : {X : Type 0} → Schema X → Layout X
-  StructureOrNull : {X : Type 0} → Layout X → Layout (Option X)
-  Array : {X : Type 0} → Layout X → Layout (List X)
-  ArrayOrNull : {X : Type 0} → Layout X → Layout (Option (List X))
+pub data PartLayout : Type 0 → Type 1 where
+  Plain : {X : Type 0} → Schema X → PartLayout X
+  StructureOrNull : {X : Type 0} → PartLayout X → PartLayout (Option X)
+  Array : {X : Type 0} → PartLayout X → PartLayout (List X)
+  ArrayOrNull : {X : Type 0} → PartLayout X → PartLayout (Option (List X))
   -- one after the other
-  Both : {X Y : Type 0} → Layout X → Layout Y → Layout (X × Y)
+  Both : {X Y : Type 0} → PartLayout X → PartLayout Y → PartLayout (X × Y)
 
 -- the bytes stand for the value
-abbrev pub Is : {X : Type 0} → Layout X → X → List ℕ → Type 0
-Is (Plain s) = schemas.Is s
-Is (StructureOrNull l) = IsStructureOrNull (Is l)
-Is (Array l) = IsList (Is l)
-Is (ArrayOrNull l) = IsListOrNull (Is l)
-Is (Both a b) = λ v. Is a v.0 ⌢ Is b v.1
+abbrev pub Encodes : {X : Type 0} → PartLayout X → X → List ℕ → Type 0
+Encodes (Plain s) = schemas.Is s
+Encodes (StructureOrNull l) = IsStructureOrNull (Encodes l)
+Encodes (Array l) = IsList (Encodes l)
+Encodes (ArrayOrNull l) = IsListOrNull (Encodes l)
+Encodes (Both a b) = λ v. Encodes a v.0 ⌢ Encodes b v.1
 
 -- reading the value from the front of some bytes
-abbrev pub value_at : {X : Type 0} → Layout X → List ℕ → Read X
-value_at (Plain s) = schemas.value_at s
-value_at (StructureOrNull l) = structure_or_null_at (value_at l)
-value_at (Array l) = list_at (value_at l)
-value_at (ArrayOrNull l) = list_or_null_at (value_at l)
-value_at (Both a b) = value_at a followed_by value_at b
+abbrev pub decoded_at : {X : Type 0} → PartLayout X → List ℕ → Read X
+decoded_at (Plain s) = schemas.value_at s
+decoded_at (StructureOrNull l) = structure_or_null_at (decoded_at l)
+decoded_at (Array l) = list_at (decoded_at l)
+decoded_at (ArrayOrNull l) = list_or_null_at (decoded_at l)
+decoded_at (Both a b) = decoded_at a followed_by decoded_at b
 
 -- no constant is in it
-abbrev pub is_readable : {X : Type 0} → Layout X → Bool
-is_readable (Plain s) = schemas.is_readable s
-is_readable (StructureOrNull l) = is_readable l
-is_readable (Array l) = is_readable l
-is_readable (ArrayOrNull l) = is_readable l
-is_readable (Both a b) = is_readable a && is_readable b
+abbrev pub is_decodable : {X : Type 0} → PartLayout X → Bool
+is_decodable (Plain s) = schemas.is_readable s
+is_decodable (StructureOrNull l) = is_decodable l
+is_decodable (Array l) = is_decodable l
+is_decodable (ArrayOrNull l) = is_decodable l
+is_decodable (Both a b) = is_decodable a && is_decodable b

@@ -1,4 +1,4 @@
--- The requests of which messages are known, by their keys and versions in Kafka's ApiKeys.
+-- The requests whose messages are known.
 use Rattle.std.specs.Prelude.{ℤ, Option, Some, option_map, if◌then◌else◌}
 use Rattle.kr_pages.specs.Reading.{is_key}
 use Rattle.kr_req.specs.Reading.{served_by}

@@ -7,17 +7,17 @@ use Rattle.kr_messages.specs.declared.fault.MessageFault.TheVariants as faults
 use Rattle.kr_messages.specs.declared.message_type.ApiMessageType.{ApiMessageType}
 use Rattle.kr_messages.specs.declared.message_type.ApiMessageType.TheVariants as types
 use Rattle.kr_messages.specs.Forms.{Form, bare_form, reply_form}
-use Rattle.kr_messages.specs.Layouts.{Is}
+use Rattle.kr_messages.specs.Layouts.{Encodes}
 use Rattle.kr_messages.specs.Responses as responses
 
 -- the text of the value that the bytes stand for
 pub record ShowsText (f : Form) (bytes text : List ℕ) : Type 0 where
   pub value : f.Value
-  pub stands : Is f.layout value bytes
+  pub stands : Encodes f.layout value bytes
   pub shown : text ≡ f.json value
 
 abbrev pub StandForNone : Form → List ℕ → Type 0
-StandForNone f bytes = (value : f.Value) → Is f.layout value bytes → ⊥
+StandForNone f bytes = (value : f.Value) → Encodes f.layout value bytes → ⊥
 
 -- the body of the reply to a request of this key, of the version that is served
 abbrev pub served_form : ApiKey → Form

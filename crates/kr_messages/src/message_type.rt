@@ -16,13 +16,13 @@ pub enum ApiMessageType {
 
 impl ApiMessageType {
     /// The request of that number and version, where its messages are known.
-    pub fn known_by(number: &i16, version: &i16) -> Option<ApiMessageType>
-        ensures { result ≡ known_by number.now version.now }
+    pub fn known_by(number: i16, version: i16) -> Option<ApiMessageType>
+        ensures { result ≡ known_by number version }
     {
-        if *number == 75 && *version == 0 {
+        if number == 75 && version == 0 {
             return Some(ApiMessageType::DescribeTopicPartitions);
         }
-        match ApiKey::served_by(number, version) {
+        match ApiKey::served_by(&number, &version) {
             Some(api) => Some(ApiMessageType::Served(api)),
             None => None,
         }

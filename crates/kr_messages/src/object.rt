@@ -3,7 +3,7 @@
 ghost use Rattle.std.specs.Prelude.{◌≡◌, ◌++◌, ℕ, List, true, refl, OnOk};
 ghost use Rattle.kr_messages.specs.Forms as forms;
 ghost use Rattle.kr_messages.specs.Forms.{◌∶◌, ◌▹◌};
-ghost use Rattle.kr_messages.specs.Layouts.{is_readable};
+ghost use Rattle.kr_messages.specs.Layouts.{is_decodable};
 ghost use Rattle.kr_messages.specs.inner.Taken.{ShowsFields, both};
 
 use crate::Mine;
@@ -37,7 +37,7 @@ pub(crate) trait Fields {
         ensures { ShowsFields fields is_first
             result from.old from.new out.old.items out.new.items };
 
-    ghost is_whole: { is_readable fields.layout ≡ true };
+    ghost is_whole: { is_decodable fields.layout ≡ true };
 }
 
 /// Tagged fields of which none is known.

@@ -97,7 +97,7 @@ fn read_type(json: &Value) -> Result<ApiMessageType, RequestFault>
     let Some((key, version)) = header_numbers(json) else {
         return Err(RequestFault::BadField);
     };
-    match ApiMessageType::known_by(&key, &version) {
+    match ApiMessageType::known_by(key, version) {
         Some(request) => Ok(request),
         None => Err(RequestFault::UnknownRequest),
     }
