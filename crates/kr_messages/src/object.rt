@@ -129,7 +129,7 @@ impl<T: Shape> Shape for Nullable<T> {
 
     ghost is_whole = { T.is_whole };
 
-    #[tactic(auto, using(crate::proofs::Showing::null_marked, crate::proofs::Showing::badly_marked, crate::proofs::Showing::structure_marked, crate::proofs::Showing::no_mark))]
+    #[tactic(auto, using(crate::proofs::Showing::badly_marked, crate::proofs::Showing::no_mark))]
     fn show(
         alloc: Global,
         from: &mut Reader<'_, Mine>,

@@ -126,11 +126,7 @@ fn served_json(alloc: Global, api: ApiKey, bytes: &[u8]) -> Result<Bytes, Messag
 }
 
 // The text of the reply to a call.
-fn called_json(
-    alloc: Global,
-    asked: ApiMessageType,
-    bytes: &[u8],
-) -> Result<Bytes, MessageFault>
+fn called_json(alloc: Global, asked: ApiMessageType, bytes: &[u8]) -> Result<Bytes, MessageFault>
     ensures { ShowsMessage (reply_form (response_form asked)) bytes.now result }
 {
     match asked {
@@ -145,11 +141,7 @@ fn called_json(
 /// `responseHeader` and `response`, each as Kafka's JSON converters write it. Where the message was no call, the response is an error
 /// alone. Other bytes are refused.
 #[tactic(auto, using(crate::proofs::Whole::reply_shown, crate::proofs::Whole::or_bare))]
-pub fn reply_json(
-    alloc: Global,
-    asked: ApiMessageType,
-    bytes: &[u8],
-) -> Result<Bytes, MessageFault>
+pub fn reply_json(alloc: Global, asked: ApiMessageType, bytes: &[u8]) -> Result<Bytes, MessageFault>
     ensures { ShowsReply asked bytes.now result }
 {
     match called_json(alloc, asked, bytes) {

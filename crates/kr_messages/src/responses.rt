@@ -409,8 +409,9 @@ pub(crate) type DescribeTopicPartitionsResponseTopic = Object<
     >,
 >;
 
-pub(crate) type Cursor =
-    Object<Member<names::TopicName, Str, Member<names::PartitionIndex, Int32, End>>>;
+pub(crate) type Cursor = Object<
+    Member<names::TopicName, Str, Member<names::PartitionIndex, Int32, End>>,
+>;
 
 pub(crate) type DescribeTopicPartitionsResponse = Object<
     Member<

@@ -144,11 +144,7 @@ fn put_served(alloc: Global, api: ApiKey, json: &Value) -> Result<Bytes, Request
 }
 
 #[tactic(auto, unfolding(crate::specs::Messages::message_for))]
-fn put_known(
-    alloc: Global,
-    request: ApiMessageType,
-    json: &Value,
-) -> Result<Bytes, RequestFault>
+fn put_known(alloc: Global, request: ApiMessageType, json: &Value) -> Result<Bytes, RequestFault>
     ensures { IsAnswerTo result (message_for (view json.now) request) }
 {
     match request {

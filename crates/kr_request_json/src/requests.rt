@@ -251,15 +251,10 @@ pub(crate) type MetadataRequest = Member<
 
 pub(crate) type TopicRequest = Member<names::Name, Str, End>;
 
-pub(crate) type Cursor =
-    Member<names::TopicName, Str, Member<names::PartitionIndex, Int32, End>>;
+pub(crate) type Cursor = Member<names::TopicName, Str, Member<names::PartitionIndex, Int32, End>>;
 
 pub(crate) type DescribeTopicPartitionsRequest = Member<
     names::Topics,
     Array<TopicRequest>,
-    Member<
-        names::ResponsePartitionLimit,
-        Int32,
-        Member<names::Cursor, Nullable<Cursor>, End>,
-    >,
+    Member<names::ResponsePartitionLimit, Int32, Member<names::Cursor, Nullable<Cursor>, End>>,
 >;
