@@ -7,7 +7,7 @@ A `Door` starts the program `kr_door` and speaks to it (docs/FORMATS.md, "The do
         for record in door.image_records(image):
             print(record["type"], record["data"])
 """
-from pibranog.door import Closed, Door, Refused
+from pibranog.door import Closed, Door, Missing, Refused
 from pibranog.values import Elected, Partition, partitions_of
 
-__all__ = ["Closed", "Door", "Elected", "Partition", "Refused", "partitions_of"]
+__all__ = ["Closed", "Door", "Elected", "Missing", "Partition", "Refused", "partitions_of"]

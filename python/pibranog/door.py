@@ -4,6 +4,7 @@ import os
 import shutil
 import struct
 import subprocess
+import threading
 from types import TracebackType
 from typing import Any, Iterable, List, Optional, Sequence, Tuple, Type
 
@@ -31,6 +32,14 @@ class Closed(Exception):
         self.status = status
 
 
+class Missing(Exception):
+    """The program isn't there."""
+
+    def __init__(self, name: str) -> None:
+        super().__init__(f"{name} isn't there: make build leaves kr_door in bin/; or name another one by KR_DOOR")
+        self.name = name
+
+
 def program() -> List[str]:
     """The program: that of KR_DOOR, else the one that make build leaves, else the one on the PATH."""
     built = os.path.join(HERE, "bin", "kr_door")
@@ -38,10 +47,16 @@ def program() -> List[str]:
 
 
 class Door:
-    """The program `kr_door`, which answers one question after the other until it is closed."""
+    """The program `kr_door`, which answers one question after the other, of any thread, until it is closed. Missing is raised where it
+    isn't there."""
 
     def __init__(self, words: Optional[Sequence[str]] = None) -> None:
-        self.process = subprocess.Popen(words or program(), stdin=subprocess.PIPE, stdout=subprocess.PIPE)
+        words = words or program()
+        try:
+            self.process = subprocess.Popen(words, stdin=subprocess.PIPE, stdout=subprocess.PIPE)
+        except OSError:
+            raise Missing(words[0]) from None
+        self.turn = threading.Lock()
 
     def __enter__(self) -> "Door":
         return self
@@ -63,6 +78,10 @@ class Door:
     def ask(self, kind: int, body: bytes) -> bytes:
         """The answer to a question of the kind with this number. Refused is raised with its refusal, Closed where the program
         ended."""
+        with self.turn:
+            return self._answer(kind, body)
+
+    def _answer(self, kind: int, body: bytes) -> bytes:
         assert self.process.stdin and self.process.stdout
         try:
             self.process.stdin.write(struct.pack(">IB", len(body) + 1, kind) + body)

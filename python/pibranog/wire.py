@@ -69,11 +69,6 @@ class Reading:
         """A text behind its length."""
         return self.take(self.count()).decode()
 
-    def text_or_null(self) -> Optional[str]:
-        """The same, or None for null."""
-        size = self.uvarint()
-        return None if size == 0 else self.take(size - 1).decode()
-
     def ids(self) -> List[int]:
         """A list of ids of brokers."""
         return [self.number(4) for _ in range(self.count())]

@@ -107,32 +107,6 @@ def missing(etcd, prefix, start, what):
     return Dropped() if look(etcd, prefix)[2] > start else Broken(what)
 
 
-# ---- records
-
-def varint(data, at):
-    """A signed number of the batch's framing, and where it ends."""
-    number = shift = 0
-    while True:
-        byte = data[at]
-        number, at, shift = number | (byte & 127) << shift, at + 1, shift + 7
-        if byte < 128:
-            return (number >> 1) ^ -(number & 1), at
-
-
-def values(batch):
-    """The values of a batch's records, in order."""
-    at = 61
-    for _ in range(struct.unpack_from(">i", batch, 57)[0]):
-        size, at = varint(batch, at)
-        behind = at + size
-        _, at = varint(batch, at + 1)                        # the attributes, a byte; the timestamp delta
-        _, at = varint(batch, at)                            # the offset delta
-        _, at = varint(batch, at)                            # the key's length: no key
-        size, at = varint(batch, at)
-        yield batch[at:at + size]
-        at = behind
-
-
 # ---- images
 
 def image_part_key(prefix, offset, at):

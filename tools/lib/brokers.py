@@ -3,7 +3,8 @@ import threading
 import time
 
 from lib import client
-from lib.nodes import NOT_CONTROLLER, request_of, told, until
+from lib.client import NOT_CONTROLLER
+from lib.nodes import until
 
 ACTIVE = (1, 2, 3)
 
@@ -41,9 +42,9 @@ class Brokers(threading.Thread):
             time.sleep(0.1 if any(errors) else 1.0)
 
     def heartbeat(self, broker, epoch):
-        message, tell = request_of(f"heartbeat {broker} {epoch}")
+        asked = client.request_of(f"heartbeat {broker} {epoch}")
         one = client.Connection(self.nodes[self.at].address, 3)
         try:
-            return told(one.ask(message), tell)[0][0]
+            return asked.told(one.ask(asked.message()))[0][0]
         finally:
             one.socket.close()

@@ -1,10 +1,12 @@
-"""Requests in words, as tools/client takes them: the message of each, and what tells its reply in lines; and a connection."""
+"""Requests in words, as tools/client takes them, and what tells their replies in lines; and a connection."""
 import argparse
 import functools
 import socket
 import struct
+from typing import Callable, NamedTuple
 
-from pibranog.wire import Reading, array, ids, text
+from lib.door import NO_ID, door, id_text, message
+from pibranog import Refused
 
 ERRORS = {
     3: "unknown topic or partition", 5: "no leader", 17: "invalid topic name", 35: "unsupported version",
@@ -17,19 +19,11 @@ ERRORS = {
     107: "ineligible replica", 108: "new leader elected",
 }
 
+NOT_CONTROLLER = 41
+
 
 class NoReply(Exception):
     """Nobody answers, or what comes isn't a reply."""
-
-
-class Reply(Reading):
-    """Takes values off the front of a reply."""
-
-    def take(self, count):
-        try:
-            return super().take(count)
-        except ValueError as fault:
-            raise NoReply(str(fault))
 
 
 class Connection:
@@ -67,204 +61,150 @@ WHAT = """Speaks to a running kr_daemon: one request, and its reply in words. Th
 something was, 2 where the words are wrong or nobody answers."""
 
 
-def message(key, version, body, correlation=1):
-    """A request's message without its size: header, body, no tagged fields."""
-    return struct.pack(">hhih", key, version, correlation, -1) + b"\0" + body + b"\0"
+class Request(NamedTuple):
+    """A request by the names of Kafka's schemas, and what tells the errors and lines of its reply's body."""
+    key: int
+    version: int
+    body: dict
+    tell: Callable
+
+    def message(self):
+        """Without its size."""
+        return message(self.key, self.version, self.body)
+
+    def response(self, reply):
+        """The body of a reply, which has an error alone where the message was no call."""
+        try:
+            return door().reply(self.key, self.version, reply)["response"]
+        except Refused:
+            raise NoReply("what came is no reply")
+
+    def lines(self, response):
+        """Each error and its line."""
+        alone = response["errorCode"] if list(response) == ["errorCode"] else None
+        return list(self.tell(response)) if alone is None else [(alone, said(alone))]
+
+    def told(self, reply):
+        return self.lines(self.response(reply))
 
 
-# ---- requests: each function gives the message and the function that tells the reply in lines
+# ---- requests
 
 def said(error):
     return "done" if error == 0 else f"refused: {ERRORS.get(error, 'error')} ({error})"
 
 
 def register(o):
-    listener = text("PLAINTEXT") + text(o.host) + struct.pack(">Hh", o.port, 0) + b"\0"
-    incarnation = (o.broker if o.incarnation is None else o.incarnation).to_bytes(16, "big")
-    body = struct.pack(">i", o.broker) + text(o.cluster) + incarnation + array([listener]) + array([]) + text(o.rack)
-    body += b"\0" + array([]) + struct.pack(">q", o.previous)
+    listener = {"name": "PLAINTEXT", "host": o.host, "port": o.port, "securityProtocol": 0}
+    body = {"brokerId": o.broker, "clusterId": o.cluster, "incarnationId": id_text(o.broker if o.incarnation is None else o.incarnation),
+            "listeners": [listener], "features": [], "rack": o.rack, "isMigratingZkBroker": False, "logDirs": [],
+            "previousBrokerEpoch": o.previous}
 
     def tell(r):
-        r.number(4)
-        error, epoch = r.number(2), r.number(8)
-        yield error, f"broker {o.broker}: registered, epoch {epoch}" if error == 0 else f"broker {o.broker}: {said(error)}"
-    return message(62, 3, body), tell
+        error = r["errorCode"]
+        yield error, f"broker {o.broker}: " + (f"registered, epoch {r['brokerEpoch']}" if error == 0 else said(error))
+    return Request(62, 3, body, tell)
 
 
 def heartbeat(o):
-    offset = o.epoch if o.offset is None else o.offset
-    body = struct.pack(">iqqbb", o.broker, o.epoch, offset, o.fence, o.stop)
+    body = {"brokerId": o.broker, "brokerEpoch": o.epoch, "currentMetadataOffset": o.epoch if o.offset is None else o.offset,
+            "wantFence": o.fence, "wantShutDown": o.stop}
 
     def tell(r):
-        r.number(4)
-        error = r.number(2)
-        caught_up, fenced, stop = r.number(1), r.number(1), r.number(1)
-        state = ["fenced" if fenced else "active", "caught up" if caught_up else "behind"] + ["may stop"] * stop
+        error = r["errorCode"]
+        state = ["fenced" if r["isFenced"] else "active", "caught up" if r["isCaughtUp"] else "behind"] + ["may stop"] * r["shouldShutDown"]
         yield error, f"broker {o.broker}: " + (", ".join(state) if error == 0 else said(error))
-    return message(63, 0, body), tell
+    return Request(63, 0, body, tell)
 
 
 def create(o):
-    assignments = [struct.pack(">i", at) + ids(brokers) + b"\0" for at, brokers in enumerate(o.on or [])]
-    settings = [text(key) + text(value) + b"\0" for key, value in o.set]
-    count = -1 if o.on else o.partitions
-    topic = text(o.topic) + struct.pack(">ih", count, -1 if o.on else o.factor) + array(assignments) + array(settings) + b"\0"
-    body = array([topic]) + struct.pack(">ib", 30000, o.dry)
+    topic = {"name": o.topic, "numPartitions": -1 if o.on else o.partitions, "replicationFactor": -1 if o.on else o.factor,
+             "assignments": [{"partitionIndex": at, "brokerIds": brokers} for at, brokers in enumerate(o.on or [])],
+             "configs": [{"name": key, "value": value} for key, value in o.set]}
 
     def tell(r):
-        r.number(4)
+        for t in r["topics"]:
+            made = f"created, {t['numPartitions']} partitions of {t['replicationFactor']} replicas, id {t['topicId']}"
+            yield t["errorCode"], f"topic {t['name']}: " + (made if t["errorCode"] == 0 else said(t["errorCode"]))
+    return Request(19, 7, {"topics": [topic], "timeoutMs": 30000, "validateOnly": o.dry}, tell)
 
-        def topic():
-            name, number, error, _ = r.text_or_null(), r.take(16), r.number(2), r.text_or_null()
-            partitions, factor, _ = r.number(4), r.number(2), r.uvarint()
-            made = f"created, {partitions} partitions of {factor} replicas, id {number.hex()}"
-            return error, f"topic {name}: " + (made if error == 0 else said(error))
-        yield from r.many(topic)
-    return message(19, 7, body), tell
+
+def told_topic(topic, *further):
+    """A topic and its partitions, with these lists of replicas where there are any in them."""
+    def line(p):
+        led = "no leader" if p["leaderId"] < 0 else f"led by {p['leaderId']}"
+        more = [f", {what} {listed(p[name])}" for what, name in further if p[name]]
+        return (f"  partition {p['partitionIndex']}: {led} in epoch {p['leaderEpoch']}, replicas {listed(p['replicaNodes'])}, "
+                f"in sync {listed(p['isrNodes'])}" + "".join(more))
+    error = topic["errorCode"]
+    head = f"topic {topic['name']}: " + (f"id {topic['topicId']}" if error == 0 else said(error))
+    return error, "\n".join([head, *map(line, topic["partitions"])])
 
 
 def describe(o):
-    topics = [bytes(16) + text(name) + b"\0" for name in o.topics] if o.topics else None
-    body = (b"\0" if topics is None else array(topics)) + b"\0\0"
+    if o.limit is not None:
+        return page(o)
+    topics = [{"topicId": NO_ID, "name": name} for name in o.topics] or None
 
     def tell(r):
-        r.number(4)
-
-        def broker():
-            number, host, port, rack = r.number(4), r.text_or_null(), r.number(4), r.text_or_null()
-            return 0, f"broker {number}: at {host}:{port}" + ("" if rack is None else f", rack {rack}")
-
-        def partition():
-            error, index, leader, epoch = r.number(2), r.number(4), r.number(4), r.number(4)
-            replicas, in_sync, _ = r.ids(), r.ids(), r.ids()
-            led = "no leader" if leader < 0 else f"led by {leader}"
-            return f"  partition {index}: {led} in epoch {epoch}, replicas {listed(replicas)}, in sync {listed(in_sync)}"
-
-        def topic():
-            error, name, number, _ = r.number(2), r.text_or_null(), r.take(16), r.number(1)
-            lines = [f"topic {name}: " + (f"id {number.hex()}" if error == 0 else said(error))] + r.many(partition)
-            r.number(4)
-            return error, "\n".join(lines)
-        yield from r.many(broker)
-        cluster, _ = r.text_or_null(), r.number(4)
-        yield 0, f"cluster {cluster}"
-        yield from r.many(topic)
-    return message(3, 12, body), tell
-
-
-def told_part(r):
-    """A partition of a page, in words."""
-    error, index, leader, epoch = r.number(2), r.number(4), r.number(4), r.number(4)
-    replicas, in_sync, eligible, known, offline = r.ids(), r.ids(), r.ids(), r.ids(), r.ids()
-    led = "no leader" if leader < 0 else f"led by {leader}"
-    more = [f", {what} {listed(which)}" for what, which in (("eligible", eligible), ("last known", known), ("offline", offline)) if which]
-    return f"  partition {index}: {led} in epoch {epoch}, replicas {listed(replicas)}, in sync {listed(in_sync)}" + "".join(more)
+        for b in r["brokers"]:
+            yield 0, f"broker {b['nodeId']}: at {b['host']}:{b['port']}" + ("" if b["rack"] is None else f", rack {b['rack']}")
+        yield 0, f"cluster {r['clusterId']}"
+        yield from map(told_topic, r["topics"])
+    return Request(3, 12, {"topics": topics, "allowAutoTopicCreation": False, "includeTopicAuthorizedOperations": False}, tell)
 
 
 def page(o, cursor=None):
-    """A page of topics: its message, and what tells its lines and then the next cursor."""
-    place = b"\xff" if cursor is None else b"\1" + text(cursor[0]) + struct.pack(">i", cursor[1]) + b"\0"
-    body = array([text(name) + b"\0" for name in o.topics]) + struct.pack(">i", o.limit) + place
-
-    def tell(r):
-        r.number(4)
-
-        def topic():
-            error, name, number, _ = r.number(2), r.text_or_null(), r.take(16), r.number(1)
-            lines = [f"topic {name}: " + (f"id {number.hex()}" if error == 0 else said(error))] + r.many(lambda: told_part(r))
-            r.number(4)
-            return error, "\n".join(lines)
-        yield from r.many(topic)
-        if r.number(1) == 1:
-            o.cursor = r.text_or_null(), r.number(4)
-            r.tags()
-        else:
-            o.cursor = None
-    return message(75, 0, body), tell
-
-
-def describe_by_pages(o):
-    """The pages from the first to the last, each asked with the cursor that the one before gave."""
-    o.cursor = None
-    yield page(o)
-    while o.cursor is not None:
-        yield page(o, o.cursor)
-
-
-def requests(o):
-    """The messages that the words ask, one after the other, each with what tells its reply."""
-    if getattr(o, "limit", None) is None:
-        yield o.request(o)
-    else:
-        yield from describe_by_pages(o)
-
-
-def answers(connection, o):
-    """Each error and its line, as they come."""
-    for request, tell in requests(o):
-        reply = Reply(connection.ask(request))
-        reply.number(4)
-        reply.tags()
-        # A reply to what is no call has an error alone.
-        if len(reply.data) == 7:
-            error = reply.number(2)
-            yield error, said(error)
-            return
-        yield from tell(reply)
+    """A page of topics, from a cursor on."""
+    body = {"topics": [{"name": name} for name in o.topics], "responsePartitionLimit": o.limit, "cursor": cursor}
+    further = ("eligible", "eligibleLeaderReplicas"), ("last known", "lastKnownElr"), ("offline", "offlineReplicas")
+    return Request(75, 0, body, lambda r: (told_topic(topic, *further) for topic in r["topics"]))
 
 
 def alter(o):
     kind, name = (4, "" if o.broker is None else str(o.broker)) if o.topic is None else (2, o.topic)
-    settings = [text(key) + bytes([1 if value is None else 0]) + text(value) + b"\0" for key, value in o.set]
-    body = array([bytes([kind]) + text(name) + array(settings) + b"\0"]) + bytes([o.dry])
+    changes = [{"name": key, "configOperation": int(value is None), "value": value} for key, value in o.set]
 
     def tell(r):
-        r.number(4)
-
-        def resource():
-            error, _, kind, name = r.number(2), r.text_or_null(), r.number(1), r.text_or_null()
-            what = f"topic {name}" if kind == 2 else f"broker {name}" if name else "every broker"
-            return error, f"settings of {what}: {said(error)}"
-        yield from r.many(resource)
-    return message(44, 1, body), tell
+        for one in r["responses"]:
+            name = one["resourceName"]
+            what = f"topic {name}" if one["resourceType"] == 2 else f"broker {name}" if name else "every broker"
+            yield one["errorCode"], f"settings of {what}: {said(one['errorCode'])}"
+    return Request(44, 1, {"resources": [{"resourceType": kind, "resourceName": name, "configs": changes}], "validateOnly": o.dry}, tell)
 
 
-def told_partitions(r):
-    """The topics of a reply, each with its partitions and their errors."""
-    def topic():
-        name = r.text_or_null()
-
-        def partition():
-            index, error, _ = r.number(4), r.number(2), r.text_or_null()
-            return error, f"topic {name} partition {index}: {said(error)}"
-        return r.many(partition)
-    for lines in r.many(topic):
-        yield from lines
+def told_errors(what, r, partitions):
+    """The error of a reply, where it has one, and that of each partition: topic, index and error."""
+    if r["errorCode"]:
+        yield r["errorCode"], f"{what}: {said(r['errorCode'])}"
+    for topic, index, error in partitions:
+        yield error, f"topic {topic} partition {index}: {said(error)}"
 
 
 def elect(o):
-    body = bytes([o.unclean]) + array([text(o.topic) + ids(o.partitions) + b"\0"]) + struct.pack(">i", 30000)
-
-    def tell(r):
-        r.number(4)
-        error = r.number(2)
-        if error:
-            yield error, f"election: {said(error)}"
-        yield from told_partitions(r)
-    return message(43, 2, body), tell
+    body = {"electionType": int(o.unclean), "topicPartitions": [{"topic": o.topic, "partitions": o.partitions}], "timeoutMs": 30000}
+    return Request(43, 2, body, lambda r: told_errors("election", r, (
+        (topic["topic"], p["partitionId"], p["errorCode"]) for topic in r["replicaElectionResults"] for p in topic["partitionResult"])))
 
 
 def reassign(o):
-    partition = struct.pack(">i", o.partition) + (b"\0" if o.brokers is None else ids(o.brokers)) + b"\0"
-    body = struct.pack(">i", 30000) + array([text(o.topic) + array([partition]) + b"\0"])
+    body = {"timeoutMs": 30000, "topics": [{"name": o.topic, "partitions": [{"partitionIndex": o.partition, "replicas": o.brokers}]}]}
+    return Request(45, 0, body, lambda r: told_errors("reassignment", r, (
+        (topic["name"], p["partitionIndex"], p["errorCode"]) for topic in r["responses"] for p in topic["partitions"])))
 
-    def tell(r):
-        r.number(4)
-        error, _ = r.number(2), r.text_or_null()
-        if error:
-            yield error, f"reassignment: {said(error)}"
-        yield from told_partitions(r)
-    return message(45, 0, body), tell
+
+# Reads all reassignments; no words ask for it.
+REASSIGNMENTS = Request(46, 0, {"timeoutMs": 0, "topics": None}, None)
+
+
+def answers(connection, o):
+    """Each error and its line, as they come: of a page, and of the next ones to the last."""
+    asked = o.request(o)
+    while asked:
+        response = asked.response(connection.ask(asked.message()))
+        yield from asked.lines(response)
+        cursor = response.get("nextCursor")
+        asked = page(o, cursor) if cursor else None
 
 
 # ---- words
@@ -336,7 +276,12 @@ def parser():
     return p
 
 
-def message_of(words):
-    """The message of a request in words, without its size."""
+def request_of(words):
+    """The request that the words ask."""
     options = parser().parse_args(words.split())
-    return options.request(options)[0]
+    return options.request(options)
+
+
+def message_of(words):
+    """Its message, without its size."""
+    return request_of(words).message()

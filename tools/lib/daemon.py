@@ -80,10 +80,22 @@ def with_daemon(more, use):
 def ask_all(address, messages):
     """The replies to the messages, once the daemon leads."""
     one = client.Connection(address)
-    # A write that changes nothing is refused on standby.
-    while one.ask(client.message_of("alter x=y --dry"))[10:12] == struct.pack(">h", 41):
-        time.sleep(0.01)
+    until_it_leads(one)
     return [one.ask(message) for message in messages]
+
+
+def until_it_leads(connection):
+    """A write that changes nothing is refused on standby."""
+    asked = client.request_of("alter x=y --dry")
+    message = asked.message()
+    while asked.told(connection.ask(message))[0][0] == client.NOT_CONTROLLER:
+        time.sleep(0.01)
+
+
+def epoch_of(broker, connection):
+    """The epoch of a broker, which is registered."""
+    asked = client.request_of(f"register {broker}")
+    return asked.response(connection.ask(asked.message()))["brokerEpoch"]
 
 
 class Quorum(threading.Thread):

@@ -5,7 +5,7 @@ inside a metadata transaction counts once it is ended."""
 from typing import NamedTuple
 
 from lib.batches import Broken, Dropped, offset_of, read, read_image, span, standing
-from pibranog import Closed, Door, Refused
+from pibranog import Closed, Door, Missing, Refused
 
 BEGIN, END, ABORT = "BEGIN_TRANSACTION_RECORD", "END_TRANSACTION_RECORD", "ABORT_TRANSACTION_RECORD"
 MINIMUM = "min.insync.replicas"
@@ -56,7 +56,7 @@ class LogState:
         try:
             self.door = self.door or Door()
             return ask(self.door, data)
-        except (Closed, OSError) as fault:
+        except (Closed, Missing) as fault:
             self.door = None
             raise Broken(f"kr_door doesn't answer: {fault}")
         except Refused as refused:

@@ -14,6 +14,7 @@ from lib.batches import look
 from lib.daemon import DAEMON, LINK, TOOL, is_open
 from lib.gateway import Gateway
 from lib.store import Unknown
+from pibranog.door import program
 
 ETCD = shlex.split(os.environ.get("ETCD", "etcd"))
 QUORUM = f"{ROOT}/tools/quorum"
@@ -21,7 +22,6 @@ LEASE = 5                # seconds, as a link takes it by itself
 SOON = 30                # seconds after which what hasn't come counts as lost
 PREFIX = b"/pibranog/"   # of the keys, as a link takes it by itself
 CLUSTER, SALT = "c1", 7
-NOT_CONTROLLER = 41
 
 
 class Patience:
@@ -40,9 +40,9 @@ def missing_program(wants_etcd=True):
     """What isn't there to start with, in words; None where nothing lacks."""
     if wants_etcd and not shutil.which(ETCD[0]):
         return "etcd isn't on the PATH: install it (Debian: apt-get install etcd-server) and run this again"
-    for program in (DAEMON[0], TOOL[0]):
-        if not shutil.which(program):
-            return f"{program} isn't there: make build makes it; or name another one by DAEMON and TOOL"
+    for name in (DAEMON[0], TOOL[0], program()[0]):
+        if not shutil.which(name):
+            return f"{name} isn't there: make build makes it; or name another one by DAEMON, TOOL and KR_DOOR"
     return None
 
 
@@ -172,8 +172,8 @@ class Node:
 
     def ask(self, words):
         """The reply to a request of tools/client: each line of it, with its error."""
-        request, tell = request_of(words)
-        return told(client.Connection(self.address, SOON).ask(request), tell)
+        asked = client.request_of(words)
+        return asked.told(client.Connection(self.address, SOON).ask(asked.message()))
 
     def leads(self):
         try:
@@ -184,17 +184,3 @@ class Node:
     def shows(self):
         """Brokers, topics and partitions, in words."""
         return "\n".join(line for _, line in self.ask("describe"))
-
-
-def request_of(words):
-    """The message of a request in tools/client's words, and what tells its reply."""
-    options = client.parser().parse_args(words.split())
-    return options.request(options)
-
-
-def told(reply, tell):
-    """The lines of a reply, each with its error; a bare reply is its error alone."""
-    reply = client.Reply(reply)
-    reply.number(4)
-    reply.tags()
-    return [(reply.number(2), "")] if len(reply.data) == 7 else list(tell(reply))

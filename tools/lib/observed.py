@@ -2,7 +2,6 @@
 status of a link is given (`--status FILE` of tools/quorum/link), the log's end, who leads in which epoch, how far each node is, and
 what the log tells of brokers and settings. For tools/watch."""
 import json
-import struct
 import time
 from concurrent.futures import ThreadPoolExecutor
 from typing import NamedTuple
@@ -38,61 +37,28 @@ class Metadata(NamedTuple):
     partitions: list
 
 
-def body_of(reply):
-    """Behind the reply's header."""
-    r = client.Reply(reply)
-    r.number(4)
-    r.tags()
-    return r
+def metadata_of(r):
+    partitions = [Partition(topic["name"], p["partitionIndex"], p["leaderId"], p["leaderEpoch"], p["replicaNodes"], p["isrNodes"], p["offlineReplicas"])
+                  for topic in r["topics"] for p in topic["partitions"]]
+    addresses = {broker["nodeId"]: (broker["host"], broker["port"], broker["rack"]) for broker in r["brokers"]}
+    return Metadata(r["clusterId"], addresses, [topic["name"] for topic in r["topics"]], partitions)
 
 
-def metadata_of(reply):
-    r = body_of(reply)
-    r.number(4)
-
-    def broker():
-        return r.number(4), (r.text_or_null(), r.number(4), r.text_or_null())
-
-    def topic():
-        _, name, _, _ = r.number(2), r.text_or_null(), r.take(16), r.number(1)
-        found = r.many(lambda: partition(name))
-        r.number(4)
-        return name, found
-
-    def partition(name):
-        _, index, leader, epoch = r.number(2), r.number(4), r.number(4), r.number(4)
-        return Partition(name, index, leader, epoch, r.ids(), r.ids(), r.ids())
-    addresses = dict(r.many(broker))
-    cluster, _ = r.text_or_null(), r.number(4)
-    topics = r.many(topic)
-    return Metadata(cluster, addresses, [name for name, _ in topics], [one for _, found in topics for one in found])
-
-
-def moves_of(reply):
+def moves_of(r):
     """The (adding, removing) replicas of each partition under reassignment, by topic and index."""
-    r = body_of(reply)
-    _, _, _ = r.number(4), r.number(2), r.text_or_null()
-
-    def topic():
-        name = r.text_or_null()
-
-        def partition():
-            index, _ = r.number(4), r.ids()
-            return (name, index), (r.ids(), r.ids())
-        return r.many(partition)
-    return dict(pair for pairs in r.many(topic) for pair in pairs)
+    return {(topic["name"], p["partitionIndex"]): (p["addingReplicas"], p["removingReplicas"]) for topic in r["topics"] for p in topic["partitions"]}
 
 
 # ---- one node
 
-READS = client.message_of("describe"), client.message(46, 0, struct.pack(">i", 0) + b"\0")
-WRITE = client.message_of("alter x=y --dry")     # changes nothing, and is refused on standby
+READS = client.request_of("describe"), client.REASSIGNMENTS
+WRITE = client.request_of("alter x=y --dry")     # changes nothing, and is refused on standby
 
 
 class Node(NamedTuple):
     """A daemon as it was seen, and the status of its link where one is told."""
     address: str
-    replies: list | None = None  # to READS; None where none came
+    replies: list | None = None  # the bodies of those to READS; None where none came
     leads: bool | None = None    # whether it takes writes; None where it doesn't say
     fault: str | None = None     # why it doesn't answer
     status: dict | None = None
@@ -117,8 +83,8 @@ def look_at(address, path):
     try:
         line = client.Connection(address, SECONDS)
         try:
-            replies = [line.ask(read) for read in READS]
-            leads = line.ask(WRITE)[10:12] == b"\0\0"
+            replies = [read.response(line.ask(read.message())) for read in READS]
+            leads = WRITE.told(line.ask(WRITE.message()))[0][0] == 0
         finally:
             line.socket.close()
     except client.NoReply as found:
@@ -217,7 +183,7 @@ class Observer:
         shows = max((node for node in nodes if node.replies), key=rank, default=None)
         try:
             metadata, moves = (metadata_of(shows.replies[0]), moves_of(shows.replies[1])) if shows else (None, {})
-        except (client.NoReply, ValueError):                        # who answers there is no controller
+        except KeyError:                                            # an error alone: who answers there is no controller
             shows, metadata, moves = None, None, {}
         log = self._follow(next((node.status["store"] for node in nodes if node.status), None)) or log_of(nodes)
         is_told = self.store is not None

@@ -43,8 +43,8 @@ def send(one, number):
 class Node:
     """The two processes, each with its lines handed to `say`."""
 
-    def __init__(self, daemon, folder, address, kept, say, at=None):
-        self.address, self.say, self.at = address, say, at
+    def __init__(self, daemon, folder, address, kept, say):
+        self.address, self.say = address, say
         self.folder = folder = os.path.abspath(folder)
         self.link = f"127.0.0.1:{free_port()}"
         self.commands = {
@@ -64,7 +64,7 @@ class Node:
 
     def start_one(self, name):
         # A group of its own: Ctrl-C is for who started them, and whatever a command starts ends with it.
-        one = subprocess.Popen(self.commands[name], cwd=self.at, stdin=subprocess.DEVNULL, stdout=subprocess.PIPE, stderr=subprocess.STDOUT,
+        one = subprocess.Popen(self.commands[name], stdin=subprocess.DEVNULL, stdout=subprocess.PIPE, stderr=subprocess.STDOUT,
                                text=True, start_new_session=True)
         self.running[name] = one
         self._note()

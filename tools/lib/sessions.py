@@ -1,37 +1,26 @@
 """Sessions of many events, made frame by frame, and what a run of one costs. Linux only."""
+import functools
 import struct
 import subprocess
 import sys
 import tempfile
 
+from lib.door import NO_ID, id_text, message
 from lib.frames import frame
-from pibranog.wire import uvarint
 
-CLUSTER = b"bench"
+CLUSTER = "bench"
 SALT = 1
-
-
-def text(said):
-    return uvarint(len(said) + 1) + said
-
-
-def rows(*elements):
-    return uvarint(len(elements) + 1) + b"".join(elements)
-
-
-def numbers(*some):
-    return rows(*(struct.pack(">i", one) for one in some))
 
 
 def topic_id(place):
     """The id of the topic whose record stands there."""
-    return struct.pack(">QQ", SALT, place + 1)
+    return id_text((SALT << 64) + place + 1)
 
 
 # ---- frames
 
 def opened(session_ms=9_000):
-    return frame(0x01, struct.pack(">iQIihi", 1, SALT, session_ms, 1, 1, 1) + CLUSTER)
+    return frame(0x01, struct.pack(">iQIihi", 1, SALT, session_ms, 1, 1, 1) + CLUSTER.encode())
 
 
 def lead(epoch, place, now=0):
@@ -51,63 +40,67 @@ def tick(now):
 
 
 def request(key, version, body, now=0):
-    head = struct.pack(">hhih", key, version, 1, -1) + b"\0"
-    return frame(0x08, struct.pack(">Iq", 1, now) + head + body + b"\0")
+    return frame(0x08, struct.pack(">Iq", 1, now) + message(key, version, body))
 
 
 def registration(broker, incarnation=None, listeners=1, features=0, previous=-1):
-    listener = text(b"PLAINTEXT") + text(b"localhost") + struct.pack(">Hh", 9000, 0) + b"\0"
-    feature = text(b"f") + struct.pack(">hh", 0, 0) + b"\0"
-    body = struct.pack(">i", broker) + text(CLUSTER) + struct.pack(">QQ", 0, incarnation or broker)
-    body += rows(*[listener] * listeners) + rows(*[feature] * features)
-    return request(62, 3, body + b"\0\0" + rows() + struct.pack(">q", previous))
+    listener = {"name": "PLAINTEXT", "host": "localhost", "port": 9000, "securityProtocol": 0}
+    feature = {"name": "f", "minSupportedVersion": 0, "maxSupportedVersion": 0}
+    return request(62, 3, {
+        "brokerId": broker, "clusterId": CLUSTER, "incarnationId": id_text(incarnation or broker), "listeners": [listener] * listeners,
+        "features": [feature] * features, "rack": None, "isMigratingZkBroker": False, "logDirs": [], "previousBrokerEpoch": previous})
 
 
+@functools.cache
 def heartbeat(broker, epoch, offset, now=0, fence=False, stop=False):
-    return request(63, 0, struct.pack(">iqqBB", broker, epoch, offset, fence, stop), now)
+    body = {"brokerId": broker, "brokerEpoch": epoch, "currentMetadataOffset": offset, "wantFence": fence, "wantShutDown": stop}
+    return request(63, 0, body, now)
 
 
 def unregistration(broker):
-    return request(64, 0, struct.pack(">i", broker))
+    return request(64, 0, {"brokerId": broker})
 
 
 def new_topic(name, partitions=1, factor=1, assignments=(), settings=()):
     """A topic to create, which one request may have many of."""
-    given = rows(*(struct.pack(">i", at) + numbers(*ids) + b"\0" for at, ids in enumerate(assignments)))
-    head = text(name) + struct.pack(">ih", -1 if assignments else partitions, -1 if assignments else factor)
-    return head + given + rows(*(text(key) + text(value) + b"\0" for key, value in settings)) + b"\0"
+    return {"name": name, "numPartitions": -1 if assignments else partitions, "replicationFactor": -1 if assignments else factor,
+            "assignments": [{"partitionIndex": at, "brokerIds": list(ids)} for at, ids in enumerate(assignments)],
+            "configs": [{"name": key, "value": value} for key, value in settings]}
 
 
 def topics(*some):
-    return request(19, 7, rows(*some) + struct.pack(">iB", 0, 0))
+    return request(19, 7, {"topics": some, "timeoutMs": 0, "validateOnly": False})
 
 
 def topic(name, partitions, factor, assignments=()):
     return topics(new_topic(name, partitions, factor, assignments))
 
 
-def operation(key, value):
-    return text(key) + b"\0" + text(value) + b"\0"
+def operation(key, value, number=0):
+    """A change of a setting: 0 sets it, 1 deletes it, 2 adds to a list, 3 takes away."""
+    return {"name": key, "configOperation": number, "value": value}
 
 
 def alterations(*resources):
     """Of each resource its type, its name and what is set."""
-    each = (bytes([kind]) + text(name) + rows(*operations) + b"\0" for kind, name, operations in resources)
-    return request(44, 1, rows(*each) + b"\0")
+    each = [{"resourceType": kind, "resourceName": name, "configs": operations} for kind, name, operations in resources]
+    return request(44, 1, {"resources": each, "validateOnly": False})
 
 
+@functools.cache
 def setting(value):
-    return alterations((4, b"", [operation(b"note", value)]))
+    return alterations((4, "", [operation("note", value)]))
 
 
 def election(*asked):
-    """Of each topic its name and the indexes."""
-    return request(43, 2, b"\0" + rows(*(text(name) + numbers(*indexes) + b"\0" for name, indexes in asked)) + struct.pack(">i", 0))
+    """Of each topic its name and the indexes; all partitions where none is asked."""
+    each = [{"topic": name, "partitions": indexes} for name, indexes in asked] or None
+    return request(43, 2, {"electionType": 0, "topicPartitions": each, "timeoutMs": 0})
 
 
 def metadata(names=None):
-    asked = b"\0" if names is None else rows(*(bytes(16) + text(name) + b"\0" for name in names))
-    return request(3, 12, asked + b"\0\0")
+    asked = None if names is None else [{"topicId": NO_ID, "name": name} for name in names]
+    return request(3, 12, {"topics": asked, "allowAutoTopicCreation": False, "includeTopicAuthorizedOperations": False})
 
 
 class Session:

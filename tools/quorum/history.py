@@ -7,11 +7,12 @@ import time
 from typing import NamedTuple
 
 from tape import digest
-from lib.batches import Broken, span, values, whole
+from lib.batches import Broken, span, whole
+from lib.door import records
 from lib.gateway import Gateway, unpacked
 from lib.store import Unknown
+from pibranog import Refused
 
-SHOWN = 200              # bytes of a record's value that are kept
 TRIES = 60               # of a call of etcd
 
 
@@ -26,6 +27,32 @@ def patiently(call):
     raise Unknown(f"{type(fault).__name__}: {fault}")
 
 
+# What tells a record of each type from the others, where writers.py writes it.
+FIELDS = {"TOPIC_RECORD": ("name",), "REGISTER_BROKER_RECORD": ("brokerId", "incarnationId"),
+          "CONFIG_RECORD": ("resourceType", "resourceName", "name", "value")}
+
+
+class Records:
+    """What writers wrote, as the log has it, by places."""
+
+    def __init__(self):
+        self.at, self.place_of = {}, {}
+
+    def take(self, place, batch):
+        for at, (kind, data) in enumerate(records(batch), place):
+            if kind in FIELDS:
+                self.at[at] = kind, data
+                self.place_of[kind, *(data[name] for name in FIELDS[kind])] = at
+
+    def has(self, record, place=None):
+        """The place of a record of this type with these fields, at the place that was told, or anywhere; None where it doesn't stand."""
+        kind, fields = record
+        if place is None:
+            place = self.place_of.get((kind, *(fields[name] for name in FIELDS[kind])))
+        found, data = self.at.get(place, (None, {}))
+        return place if found == kind and fields.items() <= data.items() else None
+
+
 class Standing(NamedTuple):
     """A batch of the log."""
     end: int
@@ -34,13 +61,13 @@ class Standing(NamedTuple):
 
 
 class History:
-    """The log at the revision that was reached, the values of its records by their places, and what broke a rule on the way."""
+    """The log at the revision that was reached, with its records, and what broke a rule on the way."""
 
     def __init__(self, members, prefix, path):
         self.etcd, self.prefix, self.path = Gateway(members), prefix, path
         self.revision = self.end = self.epoch = self.image = 0
         self.is_led = False
-        self.log, self.value_at, self.place_of, self.parts, self.faults = {}, {}, {}, {}, []
+        self.log, self.records, self.parts, self.faults = {}, Records(), {}, []
         self.size, self.size_at, self.images = 0, {}, []     # bytes of the log, up to each end; images that nobody looked at yet
 
     def catch_up(self):
@@ -105,9 +132,10 @@ class History:
 
     def _keep(self, place, behind, epoch, batch):
         self.log[place], self.end = Standing(behind, epoch, digest(batch)), behind
-        for at, value in enumerate(values(batch), place):
-            self.value_at[at] = value[:SHOWN]
-            self.place_of[value[:SHOWN]] = at
+        try:
+            self.records.take(place, batch)
+        except Refused as refused:
+            self._fault(f"the batch at place {place} is refused: {refused}")
         with open(self.path, "ab") as file:
             file.write(batch)
         self.size += len(batch)
@@ -133,12 +161,3 @@ class History:
             return b""
         with open(self.path, "rb") as file:
             return file.read()
-
-    def has(self, value, place=None):
-        """The place of a record whose value begins so, at the place that was told, or anywhere; None where it doesn't stand."""
-        value = value[:SHOWN]
-        if place is None:
-            place = self.place_of.get(value)
-        if place is None:
-            place = next((at for at, other in self.value_at.items() if other.startswith(value)), None)
-        return place if self.value_at.get(place, b"").startswith(value) else None

@@ -7,14 +7,14 @@ from history import History
 from tape import digest
 from lib import client
 from lib.daemon import TOOL
-from lib.nodes import CLUSTER, PREFIX, SALT, SOON, Failed, request_of, until
+from lib.nodes import CLUSTER, PREFIX, SALT, SOON, Failed, until
 
 OPEN, LOAD, REQUEST, END, REPLY = 0x01, 0x06, 0x08, 0x0A, 0x82
 
 
 def messages():
     """Reads of all brokers and topics, and of all reassignments."""
-    return [request_of("describe")[0], client.message(46, 0, struct.pack(">i", 0) + b"\0")]
+    return [client.message_of("describe"), client.REASSIGNMENTS.message()]
 
 
 def shown_by(node):
@@ -66,7 +66,7 @@ class Judge:
         self.faults += self.history.faults
         self.history.faults = []
         for number, write in done:
-            place = write.stands_at(self.history)
+            place = write.stands_at(self.history.records)
             self.writes.append((write.error, write.over - write.asked, place is not None))
             if write.error == 0:
                 self._success(number, write, place)

@@ -2,23 +2,23 @@
 import collections
 import itertools
 import random
-import struct
 import threading
 import time
 
 from lib import client
-from lib.nodes import NOT_CONTROLLER, SOON, request_of, told
+from lib.client import NOT_CONTROLLER
+from lib.door import id_number, id_text
+from lib.nodes import SOON
 
 LARGE, MANY = "x" * 8_000, 140   # the value of a large setting, and how many go in one request: above what stands in one piece
 PAUSE = 0.4              # seconds between two writes of a client, at most
-TOPIC, REGISTER, CONFIG = b"\x01\x02\x00", b"\x01\x00\x01", b"\x01\x04\x00"    # frame version, key and version of a record
 
 
 class Write:
     """One request that writes, what is to stand in the log for it, and what came of it."""
 
-    def __init__(self, words, values, place=None):
-        self.words, self.values = words, values              # how the values of its records begin, in words of the reply
+    def __init__(self, words, records, place=None):
+        self.words, self.records = words, records            # the type of each of its records, and fields of it
         self.place = place                                   # takes the place out of the reply's line, where that tells it
         self.asked = self.over = 0.0
         self.error = self.told = None                        # None where no reply came; the place that was told
@@ -26,35 +26,38 @@ class Write:
     def take(self, error, line):
         self.error = error
         if error == 0 and self.place:
-            self.told, self.values = self.place(line)
+            self.told, self.records = self.place(line)
 
-    def stands_at(self, history):
+    def stands_at(self, standing):
         """The place of its first record; None where it doesn't stand."""
-        places = [history.has(value, None if self.told is None else self.told) for value in self.values]
+        places = [standing.has(record, self.told) for record in self.records]
         return None if None in places else places[0]
 
 
 def topic(name):
     def place(line):
-        number = bytes.fromhex(line.split("id ")[1])
+        number = line.split("id ")[1]
         # The least number above the place that no topic has: where each topic has a request of its own, the next one.
-        return int.from_bytes(number[8:], "big") - 1, [TOPIC + client.text(name) + number + b"\0"]
-    return Write(f"create {name} --partitions 1 --factor 2", [TOPIC + client.text(name)], place)
+        return id_number(number) % (1 << 64) - 1, [("TOPIC_RECORD", {"name": name, "topicId": number})]
+    return Write(f"create {name} --partitions 1 --factor 2", [("TOPIC_RECORD", {"name": name})], place)
 
 
 def registration(broker, incarnation):
-    value = REGISTER + struct.pack(">i", broker) + incarnation.to_bytes(16, "big")
-    return Write(f"register {broker} --incarnation {incarnation}", [value], lambda line: (int(line.split("epoch ")[1]), [value]))
+    records = [("REGISTER_BROKER_RECORD", {"brokerId": broker, "incarnationId": id_text(incarnation)})]
+    return Write(f"register {broker} --incarnation {incarnation}", records, lambda line: (int(line.split("epoch ")[1]), records))
+
+
+def config(key, value):
+    return "CONFIG_RECORD", {"resourceType": 4, "resourceName": "", "name": key, "value": value}
 
 
 def setting(key, value):
-    return Write(f"alter {key}={value}", [CONFIG + b"\x04" + client.text("") + client.text(key) + client.text(value) + b"\0"])
+    return Write(f"alter {key}={value}", [config(key, value)])
 
 
 def many(start):
     pairs = [(f"large-{at}", f"{start}-{at}-{LARGE}") for at in range(MANY)]
-    return Write("alter " + " ".join(f"{key}={value}" for key, value in pairs),
-                 [CONFIG + b"\x04" + client.text("") + client.text(key) + client.text(value) for key, value in pairs])
+    return Write("alter " + " ".join(f"{key}={value}" for key, value in pairs), [config(key, value) for key, value in pairs])
 
 
 class Writer(threading.Thread):
@@ -87,11 +90,12 @@ class Writer(threading.Thread):
         return setting(f"key-{self.number}", name)
 
     def ask(self, write):
-        message, tell = request_of(write.words)
+        asked = client.request_of(write.words)
+        message = asked.message()
         write.asked = time.monotonic()
         try:
             self.open = self.open or client.Connection(self.nodes[self.at].address, SOON)
-            write.take(*told(self.open.ask(message), tell)[0])
+            write.take(*asked.told(self.open.ask(message))[0])
         except client.NoReply:
             pass
         write.over = time.monotonic()

@@ -1,14 +1,13 @@
 //! Replies as JSON.
 
 ghost use Rattle.std.specs.Prelude.{◌≡◌};
-ghost use Rattle.kr_req.specs.Reading.{served_by};
+ghost use Rattle.kr_messages.specs.MessageTypes.{known_by};
 ghost use Rattle.kr_wire.specs.Reading.{Reads};
 ghost use Rattle.kr_wire.specs.Schema.{value_at};
-ghost use Rattle.kr_door_loop.specs.Replies.{AnswersReply, GivesReply, ShowsServed, asked_api};
+ghost use Rattle.kr_door_loop.specs.Replies.{AnswersReply, GivesReply, ShowsKnown, asked_api};
 
 use crate::{Answer, DoorRefusal};
-use kr_messages::{MessageFault, reply_json};
-use kr_req::ApiKey;
+use kr_messages::{ApiMessageType, MessageFault, reply_json};
 use kr_wire::{WireFault, read_i16};
 use std::alloc::Global;
 
@@ -21,11 +20,11 @@ fn read_api(body: &[u8]) -> Result<((i16, i16), usize), WireFault>
     Ok(((key, version), next))
 }
 
-// The reply to a request of this key.
-fn show_served(alloc: Global, api: ApiKey, message: &[u8]) -> Answer
-    ensures { GivesReply api message.now result }
+// The reply to this request.
+fn show_known(alloc: Global, asked: ApiMessageType, message: &[u8]) -> Answer
+    ensures { GivesReply asked message.now result }
 {
-    match reply_json(alloc, api, message) {
+    match reply_json(alloc, asked, message) {
         Ok(text) => Ok(text),
         Err(MessageFault::BadMessage) => Err(DoorRefusal::BadBody),
         Err(MessageFault::NoMemory) => Err(DoorRefusal::NoMemory),
@@ -33,11 +32,11 @@ fn show_served(alloc: Global, api: ApiKey, message: &[u8]) -> Answer
 }
 
 // The reply to a request of the key with this number, of this version.
-fn show_numbered(alloc: Global, key: &i16, version: &i16, message: &[u8]) -> Answer
-    ensures { ShowsServed (served_by key.now version.now) message.now result }
+fn show_numbered(alloc: Global, key: i16, version: i16, message: &[u8]) -> Answer
+    ensures { ShowsKnown (known_by key version) message.now result }
 {
-    match ApiKey::served_by(key, version) {
-        Some(api) => show_served(alloc, api, message),
+    match ApiMessageType::known_by(key, version) {
+        Some(asked) => show_known(alloc, asked, message),
         None => Err(DoorRefusal::BadBody),
     }
 }
@@ -49,7 +48,7 @@ pub(crate) fn show_reply(alloc: Global, body: &[u8]) -> Answer
     match read_api(body) {
         Ok(((key, version), next)) => {
             let (_front, message) = body.split_at(next);
-            show_numbered(alloc, &key, &version, message)
+            show_numbered(alloc, key, version, message)
         }
         Err(_) => Err(DoorRefusal::BadBody),
     }

@@ -1,3 +1,4 @@
+mod Layouts
 mod Loops
 mod Showing
 mod Whole

@@ -1,6 +1,6 @@
 -- Bodies of replies, field by field as in Kafka's schemas, of the versions that are served.
 use Rattle.std.specs.Prelude.{codes}
-use Rattle.kr_messages.specs.Forms.{Form, ◌∶◌, ◌▹◌, array_form, boolean_form, no_field, int8_form, int16_form, int32_form, int64_form, nullable_array_form, nullable_text_form, object_form, text_form, uuid_form}
+use Rattle.kr_messages.specs.Forms.{Form, ◌∶◌, ◌▹◌, array_form, boolean_form, no_field, int8_form, int16_form, int32_form, int64_form, nullable_array_form, nullable_form, nullable_text_form, object_form, text_form, uuid_form}
 
 abbrev pub broker_registration_response_form : Form
 broker_registration_response_form =
@@ -123,3 +123,22 @@ abbrev pub metadata_response_form : Form
 metadata_response_form =
     object_form (codes "throttleTimeMs" ∶ int32_form ▹ codes "brokers" ∶ (array_form metadata_response_broker_form) ▹ codes "clusterId" ∶ nullable_text_form ▹
     codes "controllerId" ∶ int32_form ▹ codes "topics" ∶ (array_form metadata_response_topic_form) ▹ no_field)
+
+abbrev pub describe_topic_partitions_response_partition_form : Form
+describe_topic_partitions_response_partition_form =
+    object_form (codes "errorCode" ∶ int16_form ▹ codes "partitionIndex" ∶ int32_form ▹ codes "leaderId" ∶ int32_form ▹ codes "leaderEpoch" ∶ int32_form ▹
+    codes "replicaNodes" ∶ (array_form int32_form) ▹ codes "isrNodes" ∶ (array_form int32_form) ▹ codes "eligibleLeaderReplicas" ∶ (nullable_array_form int32_form) ▹
+    codes "lastKnownElr" ∶ (nullable_array_form int32_form) ▹ codes "offlineReplicas" ∶ (array_form int32_form) ▹ no_field)
+
+abbrev pub describe_topic_partitions_response_topic_form : Form
+describe_topic_partitions_response_topic_form =
+    object_form (codes "errorCode" ∶ int16_form ▹ codes "name" ∶ nullable_text_form ▹ codes "topicId" ∶ uuid_form ▹ codes "isInternal" ∶ boolean_form ▹
+    codes "partitions" ∶ (array_form describe_topic_partitions_response_partition_form) ▹ codes "topicAuthorizedOperations" ∶ int32_form ▹ no_field)
+
+abbrev pub cursor_form : Form
+cursor_form = object_form (codes "topicName" ∶ text_form ▹ codes "partitionIndex" ∶ int32_form ▹ no_field)
+
+abbrev pub describe_topic_partitions_response_form : Form
+describe_topic_partitions_response_form =
+    object_form (codes "throttleTimeMs" ∶ int32_form ▹ codes "topics" ∶ (array_form describe_topic_partitions_response_topic_form) ▹
+    codes "nextCursor" ∶ (nullable_form cursor_form) ▹ no_field)

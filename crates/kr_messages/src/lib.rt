@@ -3,6 +3,7 @@
 
 mod fault;
 mod list;
+mod message_type;
 mod names;
 mod object;
 mod reply;
@@ -10,6 +11,7 @@ mod responses;
 mod shape;
 
 pub use fault::MessageFault;
+pub use message_type::ApiMessageType;
 pub use reply::reply_json;
 
 /// Marks what is read here: `Reader` is the layout crate's.

@@ -3,8 +3,8 @@
 ghost use Rattle.std.specs.Prelude.{◌≡◌, ◌++◌, OnOk};
 ghost use Rattle.kr_json.specs.JsonText.{elements};
 ghost use Rattle.kr_wire.specs.Reading.{elements_at};
-ghost use Rattle.kr_wire.specs.Schema.{value_at};
 ghost use Rattle.kr_messages.specs.Forms as forms;
+ghost use Rattle.kr_messages.specs.Layouts.{decoded_at};
 ghost use Rattle.kr_messages.specs.inner.Taken.{Transcribes, comma};
 
 use crate::Mine;
@@ -27,7 +27,7 @@ fn show_elements<T: Shape>(
     from: &mut Reader<'_, Mine>,
     out: &mut Vec<u8>,
 ) -> Result<(), ReadFault>
-    ensures { Transcribes (elements_at (value_at T.form.schema) count) (elements T.form.json)
+    ensures { Transcribes (elements_at (decoded_at T.form.layout) count) (elements T.form.json)
         result from.old from.new out.old.items out.new.items }
 {
     let mut is_further = false;
@@ -47,7 +47,7 @@ fn show_array<T: Shape>(
     from: &mut Reader<'_, Mine>,
     out: &mut Vec<u8>,
 ) -> Result<(), ReadFault>
-    ensures { Transcribes (elements_at (value_at T.form.schema) count) (forms.array_text T.form.json)
+    ensures { Transcribes (elements_at (decoded_at T.form.layout) count) (forms.array_text T.form.json)
         result from.old from.new out.old.items out.new.items }
 {
     put_str(out, "[")?;

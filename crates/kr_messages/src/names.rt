@@ -483,3 +483,43 @@ impl FieldName for ControllerId {
         "controllerId"
     }
 }
+
+pub(crate) struct EligibleLeaderReplicas;
+
+impl FieldName for EligibleLeaderReplicas {
+    ghost name = { codes "eligibleLeaderReplicas" };
+
+    fn name() -> &'static str {
+        "eligibleLeaderReplicas"
+    }
+}
+
+pub(crate) struct LastKnownElr;
+
+impl FieldName for LastKnownElr {
+    ghost name = { codes "lastKnownElr" };
+
+    fn name() -> &'static str {
+        "lastKnownElr"
+    }
+}
+
+pub(crate) struct TopicName;
+
+impl FieldName for TopicName {
+    ghost name = { codes "topicName" };
+
+    fn name() -> &'static str {
+        "topicName"
+    }
+}
+
+pub(crate) struct NextCursor;
+
+impl FieldName for NextCursor {
+    ghost name = { codes "nextCursor" };
+
+    fn name() -> &'static str {
+        "nextCursor"
+    }
+}

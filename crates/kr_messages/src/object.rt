@@ -1,15 +1,16 @@
 //! Structures, shown as objects.
 
 ghost use Rattle.std.specs.Prelude.{◌≡◌, ◌++◌, ℕ, List, true, refl, OnOk};
-ghost use Rattle.kr_wire.specs.Schema.{is_readable};
 ghost use Rattle.kr_messages.specs.Forms as forms;
 ghost use Rattle.kr_messages.specs.Forms.{◌∶◌, ◌▹◌};
+ghost use Rattle.kr_messages.specs.Layouts.{is_decodable};
 ghost use Rattle.kr_messages.specs.inner.Taken.{ShowsFields, both};
 
 use crate::Mine;
 use crate::shape::Shape;
 use kr_json::put_str;
 use kr_layout::{ReadFault, Reader};
+use kr_wire::WireFault;
 use std::alloc::{AllocError, Global};
 use std::marker::PhantomData;
 
@@ -36,7 +37,7 @@ pub(crate) trait Fields {
         ensures { ShowsFields fields is_first
             result from.old from.new out.old.items out.new.items };
 
-    ghost is_whole: { is_readable fields.schema ≡ true };
+    ghost is_whole: { is_decodable fields.layout ≡ true };
 }
 
 /// Tagged fields of which none is known.
@@ -112,5 +113,36 @@ impl<F: Fields> Shape for Object<F> {
         F::show(alloc, true, from, out)?;
         put_str(out, "}")?;
         Ok(())
+    }
+}
+
+// The byte before a structure that is there, and the one that stands for none.
+const THERE: i8 = 1;
+
+const NULL: i8 = -1;
+
+/// A structure, or null.
+pub(crate) struct Nullable<T>(PhantomData<T>);
+
+impl<T: Shape> Shape for Nullable<T> {
+    ghost form = { forms.nullable_form T.form };
+
+    ghost is_whole = { T.is_whole };
+
+    #[tactic(auto, using(crate::proofs::Showing::badly_marked, crate::proofs::Showing::no_mark))]
+    fn show(
+        alloc: Global,
+        from: &mut Reader<'_, Mine>,
+        out: &mut Vec<u8>,
+    ) -> Result<(), ReadFault> {
+        let mark = from.i8()?;
+        if mark == NULL {
+            put_str(out, "null")?;
+            return Ok(());
+        }
+        if mark != THERE {
+            return Err(ReadFault::Wire(WireFault::BadNull));
+        }
+        T::show(alloc, from, out)
     }
 }

@@ -3,7 +3,7 @@
 ghost use Rattle.std.specs.Prelude.{◌≡◌};
 ghost use Rattle.kr_messages.specs.Forms as forms;
 ghost use Rattle.kr_messages.specs.Forms.{reply_form};
-ghost use Rattle.kr_messages.specs.Shown.{ShowsReply, response_form};
+ghost use Rattle.kr_messages.specs.Shown.{ShowsReply, response_form, served_form};
 ghost use Rattle.kr_messages.specs.inner.Taken.{ShowsMessage, ReadsWhole, both};
 
 use crate::names::CorrelationId;
@@ -11,11 +11,12 @@ use crate::object::{End, Member, Object};
 use crate::responses::{
     AlterPartitionReassignmentsResponse, AlterPartitionResponse, BrokerHeartbeatResponse,
     BrokerRegistrationResponse, CreatePartitionsResponse, CreateTopicsResponse,
-    DeleteTopicsResponse, ElectLeadersResponse, IncrementalAlterConfigsResponse,
-    ListPartitionReassignmentsResponse, MetadataResponse, UnregisterBrokerResponse,
+    DeleteTopicsResponse, DescribeTopicPartitionsResponse, ElectLeadersResponse,
+    IncrementalAlterConfigsResponse, ListPartitionReassignmentsResponse, MetadataResponse,
+    UnregisterBrokerResponse,
 };
 use crate::shape::{Int16, Int32, Shape};
-use crate::{MessageFault, Mine};
+use crate::{ApiMessageType, MessageFault, Mine};
 use kr_defs::Bytes;
 use kr_json::put_str;
 use kr_layout::{ReadFault, Reader};
@@ -97,8 +98,8 @@ fn show_message<T: Shape>(alloc: Global, bytes: &[u8]) -> Result<Bytes, MessageF
 }
 
 // The text of the reply to a request of this key, of the version that is served.
-fn called_json(alloc: Global, api: ApiKey, bytes: &[u8]) -> Result<Bytes, MessageFault>
-    ensures { ShowsMessage (reply_form (response_form api)) bytes.now result }
+fn served_json(alloc: Global, api: ApiKey, bytes: &[u8]) -> Result<Bytes, MessageFault>
+    ensures { ShowsMessage (reply_form (served_form api)) bytes.now result }
 {
     match api {
         ApiKey::BrokerRegistration => show_message::<Reply<BrokerRegistrationResponse>>(
@@ -124,14 +125,26 @@ fn called_json(alloc: Global, api: ApiKey, bytes: &[u8]) -> Result<Bytes, Messag
     }
 }
 
-/// The JSON of the reply to a request of this key that all of the bytes are, a message without its size, of the version that is
-/// served: an object with the members `responseHeader` and `response`, each as Kafka's JSON converters write it. Where the message
-/// was no call, the response is an error alone. Other bytes are refused.
-#[tactic(auto, using(crate::proofs::Whole::reply_shown, crate::proofs::Whole::or_bare))]
-pub fn reply_json(alloc: Global, api: ApiKey, bytes: &[u8]) -> Result<Bytes, MessageFault>
-    ensures { ShowsReply api bytes.now result }
+// The text of the reply to a call.
+fn called_json(alloc: Global, asked: ApiMessageType, bytes: &[u8]) -> Result<Bytes, MessageFault>
+    ensures { ShowsMessage (reply_form (response_form asked)) bytes.now result }
 {
-    match called_json(alloc, api, bytes) {
+    match asked {
+        ApiMessageType::Served(api) => served_json(alloc, api, bytes),
+        ApiMessageType::DescribeTopicPartitions => show_message::<
+            Reply<DescribeTopicPartitionsResponse>,
+        >(alloc, bytes),
+    }
+}
+
+/// The JSON of the reply to this request that all of the bytes are, a message without its size: an object with the members
+/// `responseHeader` and `response`, each as Kafka's JSON converters write it. Where the message was no call, the response is an error
+/// alone. Other bytes are refused.
+#[tactic(auto, using(crate::proofs::Whole::reply_shown, crate::proofs::Whole::or_bare))]
+pub fn reply_json(alloc: Global, asked: ApiMessageType, bytes: &[u8]) -> Result<Bytes, MessageFault>
+    ensures { ShowsReply asked bytes.now result }
+{
+    match called_json(alloc, asked, bytes) {
         Ok(text) => Ok(text),
         Err(MessageFault::BadMessage) => show_message::<Reply<Alone<Int16>>>(alloc, bytes),
         Err(MessageFault::NoMemory) => Err(MessageFault::NoMemory),

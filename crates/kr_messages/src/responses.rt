@@ -2,7 +2,7 @@
 
 use crate::list::{Array, NullableArray};
 use crate::names;
-use crate::object::{End, Member, Object};
+use crate::object::{End, Member, Nullable, Object};
 use crate::shape::{Boolean, Int8, Int16, Int32, Int64, NullableStr, Str, Uuid};
 
 pub(crate) type BrokerRegistrationResponse = Object<
@@ -345,6 +345,82 @@ pub(crate) type MetadataResponse = Object<
                     Member<names::Topics, Array<MetadataResponseTopic>, End>,
                 >,
             >,
+        >,
+    >,
+>;
+
+pub(crate) type DescribeTopicPartitionsResponsePartition = Object<
+    Member<
+        names::ErrorCode,
+        Int16,
+        Member<
+            names::PartitionIndex,
+            Int32,
+            Member<
+                names::LeaderId,
+                Int32,
+                Member<
+                    names::LeaderEpoch,
+                    Int32,
+                    Member<
+                        names::ReplicaNodes,
+                        Array<Int32>,
+                        Member<
+                            names::IsrNodes,
+                            Array<Int32>,
+                            Member<
+                                names::EligibleLeaderReplicas,
+                                NullableArray<Int32>,
+                                Member<
+                                    names::LastKnownElr,
+                                    NullableArray<Int32>,
+                                    Member<names::OfflineReplicas, Array<Int32>, End>,
+                                >,
+                            >,
+                        >,
+                    >,
+                >,
+            >,
+        >,
+    >,
+>;
+
+pub(crate) type DescribeTopicPartitionsResponseTopic = Object<
+    Member<
+        names::ErrorCode,
+        Int16,
+        Member<
+            names::Name,
+            NullableStr,
+            Member<
+                names::TopicId,
+                Uuid,
+                Member<
+                    names::IsInternal,
+                    Boolean,
+                    Member<
+                        names::Partitions,
+                        Array<DescribeTopicPartitionsResponsePartition>,
+                        Member<names::TopicAuthorizedOperations, Int32, End>,
+                    >,
+                >,
+            >,
+        >,
+    >,
+>;
+
+pub(crate) type Cursor = Object<
+    Member<names::TopicName, Str, Member<names::PartitionIndex, Int32, End>>,
+>;
+
+pub(crate) type DescribeTopicPartitionsResponse = Object<
+    Member<
+        names::ThrottleTimeMs,
+        Int32,
+        Member<
+            names::Topics,
+            Array<DescribeTopicPartitionsResponseTopic>,
+            Member<names::NextCursor, Nullable<Cursor>, End>,
         >,
     >,
 >;

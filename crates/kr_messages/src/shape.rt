@@ -1,9 +1,9 @@
 //! Parts of messages that are read and shown at once.
 
 ghost use Rattle.std.specs.Prelude.{◌≡◌, true};
-ghost use Rattle.kr_wire.specs.Schema.{is_readable};
 ghost use Rattle.kr_messages.specs.Forms as forms;
 ghost use Rattle.kr_messages.specs.Forms.{Form};
+ghost use Rattle.kr_messages.specs.Layouts.{is_decodable};
 ghost use Rattle.kr_messages.specs.inner.Taken.{ShowsForm};
 
 use crate::Mine;
@@ -22,7 +22,7 @@ pub(crate) trait Shape {
     fn show(alloc: Global, from: &mut Reader<'_, Mine>, out: &mut Vec<u8>) -> Result<(), ReadFault>
         ensures { ShowsForm form result from.old from.new out.old.items out.new.items };
 
-    ghost is_whole: { is_readable form.schema ≡ true };
+    ghost is_whole: { is_decodable form.layout ≡ true };
 }
 
 /// A value that stands in bytes and in JSON by itself.

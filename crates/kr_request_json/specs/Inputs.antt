@@ -6,6 +6,7 @@ use Rattle.base64.specs.GeneralPurpose.{decode_of}
 use Rattle.base64.specs.declared.decode.DecodeError.{DecodeError}
 use Rattle.serde_json.specs.Data.{Data, Items, no_items, item}
 use Rattle.serde_json.specs.Find.{as_array, as_bool, as_i64, as_null, as_number, as_str, as_u64, get}
+use Rattle.kr_pages.specs.Nullable.{structure_or_null}
 use Rattle.kr_wire.specs.Spelling as spelling
 
 -- the value that a JSON is, where it is one, and the bytes that are written for a value
@@ -138,6 +139,10 @@ f ⋄ others = record {
   of_json = λ (d : Data). pair_of (member_of f.name f.input.of_json d) (others.of_json d);
   bytes = λ (v : f.input.Value × others.Value). f.input.bytes v.0 ++ others.bytes v.1;
 }
+
+-- a structure, or null
+abbrev pub nullable_input : JsonInput → JsonInput
+nullable_input f = record { Value = Option f.Value; of_json = or_null f.of_json; bytes = structure_or_null f.bytes }
 
 -- the end of a structure: no tagged field
 abbrev pub no_more : JsonInput

@@ -1,6 +1,6 @@
 -- Bodies of requests, field by field as in Kafka's schemas.
 use Rattle.std.specs.Prelude.{codes}
-use Rattle.kr_request_json.specs.Inputs.{JsonInput, ◌≔◌, ◌⋄◌, array_input, boolean_input, int8_input, int16_input, int32_input, int64_input, no_more, nullable_array_input, nullable_text_input, text_input, uint16_input, uuid_input}
+use Rattle.kr_request_json.specs.Inputs.{JsonInput, ◌≔◌, ◌⋄◌, array_input, boolean_input, int8_input, int16_input, int32_input, int64_input, no_more, nullable_array_input, nullable_input, nullable_text_input, text_input, uint16_input, uuid_input}
 
 abbrev pub listener_input : JsonInput
 listener_input =
@@ -112,3 +112,14 @@ abbrev pub metadata_request_input : JsonInput
 metadata_request_input =
     codes "topics" ≔ (nullable_array_input metadata_request_topic_input) ⋄ codes "allowAutoTopicCreation" ≔ boolean_input ⋄
     codes "includeTopicAuthorizedOperations" ≔ boolean_input ⋄ no_more
+
+abbrev pub topic_request_input : JsonInput
+topic_request_input = codes "name" ≔ text_input ⋄ no_more
+
+abbrev pub cursor_input : JsonInput
+cursor_input = codes "topicName" ≔ text_input ⋄ codes "partitionIndex" ≔ int32_input ⋄ no_more
+
+abbrev pub describe_topic_partitions_request_input : JsonInput
+describe_topic_partitions_request_input =
+    codes "topics" ≔ (array_input topic_request_input) ⋄ codes "responsePartitionLimit" ≔ int32_input ⋄
+    codes "cursor" ≔ (nullable_input cursor_input) ⋄ no_more

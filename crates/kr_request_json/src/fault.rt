@@ -12,8 +12,8 @@ pub enum RequestFault {
     /// The text is no JSON in UTF-8.
     #[error("no JSON")]
     NotJson,
-    /// No request of its key and version is served.
-    #[error("no request of this key and version is served")]
+    /// No request of its key and version is known.
+    #[error("no request of this key and version is known")]
     UnknownRequest,
     /// A field is absent, or its JSON stands for no value of its type.
     #[error("a field is absent or has no value of its type")]

@@ -5,7 +5,8 @@ ghost use Rattle.serde_json.specs.Read.{read};
 ghost use Rattle.serde_json.specs.View.{view};
 ghost use Rattle.kr_request_json.specs.declared.fault.RequestFault.TheVariants as faults;
 ghost use Rattle.kr_request_json.specs.Inputs.{int16_of, member_of, message_input};
-ghost use Rattle.kr_request_json.specs.Messages.{IsAnswerTo, api_for, bytes_for, json_of, message_for, numbers_of, or_fault, request_for, message_of_text};
+ghost use Rattle.kr_messages.specs.declared.message_type.ApiMessageType.TheVariants as types;
+ghost use Rattle.kr_request_json.specs.Messages.{IsAnswerTo, bytes_for, json_of, message_for, message_of_text, numbers_of, or_fault, request_for, type_for};
 ghost use Rattle.kr_request_json.specs.inner.Steps.{AnswersSeen};
 
 use crate::fault::{PartFault, RequestFault};
@@ -15,10 +16,11 @@ use crate::part::{ClientId, Int16, Int32, Part, as_i16};
 use crate::requests::{
     AlterPartitionReassignmentsRequest, AlterPartitionRequest, BrokerHeartbeatRequest,
     BrokerRegistrationRequest, CreatePartitionsRequest, CreateTopicsRequest, DeleteTopicsRequest,
-    ElectLeadersRequest, IncrementalAlterConfigsRequest, ListPartitionReassignmentsRequest,
-    MetadataRequest, UnregisterBrokerRequest,
+    DescribeTopicPartitionsRequest, ElectLeadersRequest, IncrementalAlterConfigsRequest,
+    ListPartitionReassignmentsRequest, MetadataRequest, UnregisterBrokerRequest,
 };
 use kr_defs::Bytes;
+use kr_messages::ApiMessageType;
 use kr_req::ApiKey;
 use serde_json::{Error, Value};
 use std::alloc::Global;
@@ -89,14 +91,14 @@ fn header_numbers(json: &Value) -> Option<(i16, i16)>
 }
 
 // Which request it is.
-fn read_api(json: &Value) -> Result<ApiKey, RequestFault>
-    ensures { result ≡ api_for (view json.now) }
+fn read_type(json: &Value) -> Result<ApiMessageType, RequestFault>
+    ensures { result ≡ type_for (view json.now) }
 {
     let Some((key, version)) = header_numbers(json) else {
         return Err(RequestFault::BadField);
     };
-    match ApiKey::served_by(&key, &version) {
-        Some(api) => Ok(api),
+    match ApiMessageType::known_by(key, version) {
+        Some(request) => Ok(request),
         None => Err(RequestFault::UnknownRequest),
     }
 }
@@ -117,7 +119,7 @@ fn put_message<B: Part>(alloc: Global, json: &Value) -> Result<Bytes, RequestFau
 
 #[tactic(auto, unfolding(crate::specs::Messages::message_for))]
 fn put_served(alloc: Global, api: ApiKey, json: &Value) -> Result<Bytes, RequestFault>
-    ensures { IsAnswerTo result (message_for (view json.now) api) }
+    ensures { IsAnswerTo result (message_for (view json.now) (types.Served api)) }
 {
     match api {
         ApiKey::BrokerRegistration => put_message::<BrokerRegistrationRequest>(alloc, json),
@@ -141,20 +143,32 @@ fn put_served(alloc: Global, api: ApiKey, json: &Value) -> Result<Bytes, Request
     }
 }
 
+#[tactic(auto, unfolding(crate::specs::Messages::message_for))]
+fn put_known(alloc: Global, request: ApiMessageType, json: &Value) -> Result<Bytes, RequestFault>
+    ensures { IsAnswerTo result (message_for (view json.now) request) }
+{
+    match request {
+        ApiMessageType::Served(api) => put_served(alloc, api, json),
+        ApiMessageType::DescribeTopicPartitions => put_message::<DescribeTopicPartitionsRequest>(
+            alloc, json,
+        ),
+    }
+}
+
 // The message of a request's JSON.
-#[tactic(auto, using(crate::proofs::Asked::served, crate::proofs::Asked::unserved))]
+#[tactic(auto, using(crate::proofs::Asked::known, crate::proofs::Asked::unknown))]
 fn put_request(alloc: Global, json: &Value) -> Result<Bytes, RequestFault>
     ensures { IsAnswerTo result (request_for (view json.now)) }
 {
-    match read_api(json) {
-        Ok(api) => put_served(alloc, api, json),
+    match read_type(json) {
+        Ok(request) => put_known(alloc, request, json),
         Err(fault) => Err(fault),
     }
 }
 
 /// The message, without its size, of the request that the text is in JSON: an object with the members `requestHeader` and `request`,
-/// each as Kafka's JSON converters read it. A field of the version that is served is mandatory, any other member is passed over.
-/// Refused is a text that is no JSON, then a key and version that aren't served, then a field that is absent or has no value of its
+/// each as Kafka's JSON converters read it. A field of the version that is known is mandatory, any other member is passed over.
+/// Refused is a text that is no JSON, then a key and version that aren't known, then a field that is absent or has no value of its
 /// type; key and version are fields that are looked at before that.
 #[tactic(auto, using(crate::proofs::Asked::asked, crate::proofs::Asked::unread))]
 pub fn request_bytes(alloc: Global, text: &[u8]) -> Result<Bytes, RequestFault>

@@ -533,3 +533,33 @@ impl FieldName for IncludeTopicAuthorizedOperations {
         "includeTopicAuthorizedOperations"
     }
 }
+
+pub(crate) struct TopicName;
+
+impl FieldName for TopicName {
+    ghost name = { codes "topicName" };
+
+    fn name() -> &'static str {
+        "topicName"
+    }
+}
+
+pub(crate) struct ResponsePartitionLimit;
+
+impl FieldName for ResponsePartitionLimit {
+    ghost name = { codes "responsePartitionLimit" };
+
+    fn name() -> &'static str {
+        "responsePartitionLimit"
+    }
+}
+
+pub(crate) struct Cursor;
+
+impl FieldName for Cursor {
+    ghost name = { codes "cursor" };
+
+    fn name() -> &'static str {
+        "cursor"
+    }
+}

@@ -9,7 +9,7 @@ ghost use Rattle.kr_request_json.specs.inner.Steps.{Found};
 
 use crate::fault::PartFault;
 use crate::part::Part;
-use kr_wire::put_uvarint;
+use kr_wire::{put_i8, put_uvarint};
 use serde_json::Value;
 use std::alloc::Global;
 use std::marker::PhantomData;
@@ -67,5 +67,22 @@ impl Part for MessageEnd {
 
     fn put(alloc: Global, json: &Value, out: &mut Vec<u8>) -> Result<(), PartFault> {
         Ok(())
+    }
+}
+
+/// A structure, or null.
+pub(crate) struct Nullable<T>(PhantomData<T>);
+
+impl<T: Part> Part for Nullable<T> {
+    ghost input = { inputs.nullable_input T.input };
+
+    #[tactic(auto, using(crate::proofs::Texts::structure_put, crate::proofs::Texts::structure_null))]
+    fn put(alloc: Global, json: &Value, out: &mut Vec<u8>) -> Result<(), PartFault> {
+        if json.is_null() {
+            put_i8(out, -1)?;
+            return Ok(());
+        }
+        put_i8(out, 1)?;
+        T::put(alloc, json, out)
     }
 }

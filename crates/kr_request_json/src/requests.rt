@@ -2,7 +2,7 @@
 
 use crate::list::{Array, NullableArray};
 use crate::names;
-use crate::object::{End, Member};
+use crate::object::{End, Member, Nullable};
 use crate::part::{Boolean, Int8, Int16, Int32, Int64, NullableStr, Str, Uint16, Uuid};
 
 pub(crate) type Listener = Member<
@@ -247,4 +247,14 @@ pub(crate) type MetadataRequest = Member<
         Boolean,
         Member<names::IncludeTopicAuthorizedOperations, Boolean, End>,
     >,
+>;
+
+pub(crate) type TopicRequest = Member<names::Name, Str, End>;
+
+pub(crate) type Cursor = Member<names::TopicName, Str, Member<names::PartitionIndex, Int32, End>>;
+
+pub(crate) type DescribeTopicPartitionsRequest = Member<
+    names::Topics,
+    Array<TopicRequest>,
+    Member<names::ResponsePartitionLimit, Int32, Member<names::Cursor, Nullable<Cursor>, End>>,
 >;

@@ -1,14 +1,12 @@
 -- Values that are taken off the front of bytes, and shown.
-use Rattle.std.specs.Prelude.{◌≡◌, ℕ, ◌&&◌, Bool, true, refl, false, List, [], ◌∷◌, ◌++◌, Result, Ok, Err, codes, if◌then◌else◌}
+use Rattle.std.specs.Prelude.{◌≡◌, ℕ, ◌&&◌, Bool, true, refl, false, List, [], ◌∷◌, ◌++◌, Option, Some, None, Result, Ok, Err, codes, if◌then◌else◌}
 use Rattle.kr_layout.specs.declared.fault.ReadFault.{ReadFault}
-use Rattle.kr_layout.specs.declared.fault.BodyFault.{BodyFault}
-use Rattle.kr_layout.specs.declared.fault.BodyFault.TheVariants as bodies
-use Rattle.kr_layout.specs.Answers.{IsFaultOf, whole}
+use Rattle.kr_layout.specs.Answers.{IsFaultOf}
 use Rattle.kr_wire.specs.Reading.{Read}
-use Rattle.kr_wire.specs.Schema.{value_at}
 use Rattle.kr_messages.specs.declared.fault.MessageFault.{MessageFault}
 use Rattle.kr_messages.specs.declared.fault.MessageFault.TheVariants as faults
 use Rattle.kr_messages.specs.Forms.{FieldForms, Form}
+use Rattle.kr_messages.specs.Layouts.{decoded_at}
 use Rattle.kr_messages.specs.Shown.{ShowsText, StandForNone}
 
 -- the value at the front was taken, and its text appended
@@ -22,28 +20,28 @@ Transcribes read json (Ok done) left left' before after = TookText read json lef
 Transcribes read json (Err fault) left left' before after = IsFaultOf fault (read left)
 
 abbrev pub ShowsForm : Form → Result (Unit {0}) ReadFault → List ℕ → List ℕ → List ℕ → List ℕ → Type 0
-ShowsForm f = Transcribes (value_at f.schema) f.json
+ShowsForm f = Transcribes (decoded_at f.layout) f.json
 
 abbrev pub ShowsFields : FieldForms → Bool → Result (Unit {0}) ReadFault → List ℕ → List ℕ → List ℕ → List ℕ → Type 0
-ShowsFields f is_first = Transcribes (value_at f.schema) (f.json is_first)
+ShowsFields f is_first = Transcribes (decoded_at f.layout) (f.json is_first)
 
 -- ---- all of some bytes
 
--- a fault of the bytes themselves
-abbrev pub HasOwnFault : {X : Type 0} → Result X BodyFault → Type 0
-HasOwnFault (Ok x) = ⊥
-HasOwnFault (Err bodies.NoMemory) = ⊥
-HasOwnFault (Err other) = Unit {0}
+-- the value, where nothing is left behind it
+abbrev pub whole_of : {X : Type 0} → Read X → Option X
+whole_of (Ok (x, [])) = Some x
+whole_of (Ok (x, b ∷ bytes)) = None
+whole_of (Err fault) = None
 
 -- the text of the value that all of the bytes give
 pub record ReadsText (f : Form) (bytes out : List ℕ) : Type 0 where
   pub value : f.Value
-  pub is : whole f.schema bytes ≡ Ok value
+  pub is : whole_of (decoded_at f.layout bytes) ≡ Some value
   pub text : out ≡ f.json value
 
 abbrev pub ReadsWhole : Form → List ℕ → Result (List ℕ) MessageFault → Type 0
 ReadsWhole f bytes (Ok out) = ReadsText f bytes out
-ReadsWhole f bytes (Err faults.BadMessage) = HasOwnFault (whole f.schema bytes)
+ReadsWhole f bytes (Err faults.BadMessage) = whole_of (decoded_at f.layout bytes) ≡ None
 ReadsWhole f bytes (Err faults.NoMemory) = Unit {0}
 
 abbrev pub ShowsMessage : Form → List ℕ → Result (List ℕ) MessageFault → Type 0

@@ -1,5 +1,4 @@
 use Rattle.std.proofs.lemmas.Result.{err_from_is_err_and}
-use Rattle.kr_wire.specs.Schema.{value_at}
 use Rattle.kr_messages.proofs.Loops.{all_shown, begun, one_more, one_refused}
 use Rattle.kr_messages.proofs.list.show_elements.Goals as goal
 

@@ -1,4 +1,5 @@
-"""Images of clusters, in bytes (docs/FORMATS.md, "Images"): brokers, and topics with partitions."""
+"""Batches and images in bytes (docs/FORMATS.md), as another controller may have written them: for trials and measures alone. No program
+of this repository makes a batch of records that somebody names."""
 import struct
 
 from pibranog.wire import array, ids, text, uvarint
@@ -40,6 +41,15 @@ def partition(index, number, replicas, leader):
     lists = ids(replicas) + ids(replicas) + ids([]) + ids([])
     directories = array([bytes(16)] * len(replicas))
     return value(3, 2, struct.pack(">iQQ", index, 0, number) + lists + struct.pack(">iii", leader, 0, 0) + directories)
+
+
+def setting(key, text_of_it):
+    """Of every broker."""
+    return value(4, 0, b"\4" + text("") + text(key) + text(text_of_it))
+
+
+# of a metadata transaction (KIP-868)
+BEGIN, END = value(23, 0, b""), value(24, 0, b"")
 
 
 def batch(base, values):
