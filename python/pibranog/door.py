@@ -143,5 +143,5 @@ class Door:
     def request(self, request: dict[str, Any]) -> bytes:
         """The message, without its size, of a request: `requestHeader`, which names its key and version, and `request`, each as
         Kafka's JSON converters of the message schemas read it. Refused is raised as `UnknownRequest` where that key and version
-        aren't served, as `BadField` where a field is absent or has no value of its type."""
+        are neither served nor 75 and 0, as `BadField` where a field is absent or has no value of its type."""
         return self.ask(REQUEST, json.dumps(request).encode())
