@@ -1,0 +1,2 @@
+pub mod LinkTurns
+pub mod Turns
