@@ -103,8 +103,7 @@ module _ (options : Options) (name : ℕ → ℕ → ℕ) where
       receives frame rest now is read places =
           let event = event_of frame now in
           let sent = flat_map frames_sent (z.run.nodes k).link.out.actions in
-          turn_beside (timed_turned options z (Receives k frame rest now)) (Take k frame (rest ++ sent) now) (Arrive k frame (rest ++ sent) ∷ given_steps options k (z.daemons k) event)
-          (
+          turn_beside (timed_turned options z (Receives k frame rest now)) (Take k frame (rest ++ sent) now) (Arrive k frame (rest ++ sent) ∷ given_steps options k (z.daemons k) event) (
             ap (λ (n : Network). n.frames k) x.network ∙ ((b.cores.sides k).frames ∙ ap (λ (frames : List Frame). frames ++ sent) is),
             read,
             subst (λ (q : Point). is_far (pos (behind 0 q.log)) ≡ false) (sym point_is) places,
