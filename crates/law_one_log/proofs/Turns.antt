@@ -411,11 +411,11 @@ turn_right options y (Link step) h (a, rise) = link_right options y h step a ris
 turn_right options y (Take k frame rest now) h (is, read, places) = take_right options y h k rest now frame is read places
 turn_right options y (Serve k event) h (own, reads) = serves_right options y h k event own reads
 
-turns_right : (options : Options) (y : System) (turns : List SystemTurn) → IsSystem y → AllMayTurn options y turns → IsSystem (fold (turned options) y turns)
+pub turns_right : (options : Options) (y : System) (turns : List SystemTurn) → IsSystem y → AllMayTurn options y turns → IsSystem (fold (turned options) y turns)
 turns_right options y [] h a = h
 turns_right options y (turn ∷ turns) h (here, a) = turns_right options (turned options y turn) turns (turn_right options y turn h here) a
 
-first_system : IsSystem no_system
+pub first_system : IsSystem no_system
 first_system = record { network = first_network image_bytes; has = first_has IsStored image_bytes; daemons = λ k. fresh_is []; told = tt; sense = first_sense; leasts = λ k. 0; ascent = first_ascent image_bytes; knows = λ k. record { ends = tt; low = refl } }
 
 says_one_log : (y : System) → IsSystem y → SaysOneLog y

@@ -71,25 +71,30 @@ pub record ComesTo (make : List Batch → List ℕ) (R : CoreRun → Type 0) (c 
   pub cluster : daemons_of run.network ≡ c
   pub sides : P run
 
--- it is recorded that something came
+-- it is recorded that something came, and that a new daemon did
 abbrev pub RecordsAll : (List Batch → List ℕ) → (CoreRun → Type 0) → Type 0
-RecordsAll make R = (r : CoreRun) (k : ℕ) (came : Came) → R r → IsRightOf make r.network k came → AllMayHappen make r.network (steps_of r (Comes k came))
+RecordsAll make R = (r : CoreRun) (k : ℕ) (came : Came) → IsNoJoin came → R r → IsRightOf make r.network k came → AllMayHappen make r.network (steps_of r (Comes k came))
     → AllRise r.network (steps_of r (Comes k came)) → R (run_after r (Comes k came))
+
+abbrev pub RecordsJoin : (List Batch → List ℕ) → (CoreRun → Type 0) → (ℕ → CoreRun → Type 0) → Type 0
+RecordsJoin make R Renewed = (r : CoreRun) (k : ℕ) → R r → AllMayHappen make r.network (steps_of r (Comes k Joined)) → AllRise r.network (steps_of r (Comes k Joined))
+    → Renewed k (run_after r (Comes k Joined))
 
 module _ (make : List Batch → List ℕ) (R : CoreRun → Type 0) where
   -- what is said of it says something else
   pub so_too : (c : Cluster) (P Q : CoreRun → Type 0) (x : ComesTo make R c P) → (P x.run → Q x.run) → ComesTo make R c Q
   so_too c P Q x f = record { run = x.run; recorded = x.recorded; network = x.network; cores = x.cores; cluster = x.cluster; sides = f x.sides }
 
-module _ (make : List Batch → List ℕ) (R : CoreRun → Type 0) (records : RecordsAll make R) (k : ℕ) (sides : ℕ → LinkSide) where
+module _ (make : List Batch → List ℕ) (R : CoreRun → Type 0) (Renewed : ℕ → CoreRun → Type 0) (records : RecordsAll make R) (joins : RecordsJoin make R Renewed) (k : ℕ) (sides : ℕ → LinkSide) where
   abbrev pub AreAt : LinkSide → CoreRun → Type 0
   AreAt s r = AreSides (core_side r k) s × ((j : ℕ) → nat_eq k j ≡ false → AreSides (core_side r j) (sides j))
 
-  came_at : (c d : Cluster) (P Q : CoreRun → Type 0) (x : ComesTo make R c P) (came : Came) → IsRightOf make x.run.network k came
-      → RisesBehind came (x.run.network.web.links k).won → daemons_of (run_after x.run (Comes k came)).network ≡ d → Q (run_after x.run (Comes k came)) → ComesTo make R d Q
-  came_at c d P Q x came right below cluster sides = record {
+  came_at : (c d : Cluster) (P Q S : CoreRun → Type 0) (x : ComesTo make R c P) (came : Came) → IsRightOf make x.run.network k came
+      → (AllMayHappen make x.run.network (steps_of x.run (Comes k came)) → AllRise x.run.network (steps_of x.run (Comes k came)) → S (run_after x.run (Comes k came)))
+      → RisesBehind came (x.run.network.web.links k).won → daemons_of (run_after x.run (Comes k came)).network ≡ d → Q (run_after x.run (Comes k came)) → ComesTo make S d Q
+  came_at c d P Q S x came right recorded below cluster sides = record {
     run = run_after x.run (Comes k came);
-    recorded = records x.run k came x.recorded right (may_come make k x.run x.network x.cores came right)
+    recorded = recorded (may_come make k x.run x.network x.cores came right)
         (rises k (behind_first (x.run.network.web.links k).pipe) x.run.network (x.run.cores k) came below);
     network = network_then make k x.run x.network x.cores came right;
     cores = cores_then make k x.run x.network x.cores came right;
@@ -101,15 +106,15 @@ module _ (make : List Batch → List ℕ) (R : CoreRun → Type 0) (records : Re
       → RisesBehind came s.won → ComesTo make R c (AreAt (told_by s.core s came))
   told_at c s came free x right below =
       let r = x.run in
-      came_at c c (AreAt s) (AreAt (told_by s.core s came)) x came right (subst (λ (won : List ℕ). RisesBehind came won) (sym x.sides.0.won) below)
+      came_at c c (AreAt s) (AreAt (told_by s.core s came)) R x came right (λ may rise. records r k came free x.recorded right may rise) (subst (λ (won : List ℕ). RisesBehind came won) (sym x.sides.0.won) below)
       (told_cluster make k r x.network x.cores came free right s x.sides.0 ∙ x.cluster)
       (told_right make k r x.network x.cores came free right s x.sides.0, λ j other. sides_stay k came r j other (sides j) (x.sides.1 j other))
 
   pub joins_at : (c : Cluster) (s : LinkSide) (actions : List Action) → flat_map frames_sent actions ≡ [] → ((l : Link) → AllByRecursion (IsKnown l) actions)
-      → ComesTo make R c (AreAt s) → ComesTo make R (moved c (Renew k)) (AreAt (joined_side s actions))
+      → ComesTo make R c (AreAt s) → ComesTo make (Renewed k) (moved c (Renew k)) (AreAt (joined_side s actions))
   joins_at c s actions silent known x =
       let r = x.run in
-      came_at c (moved c (Renew k)) (AreAt s) (AreAt (joined_side s actions)) x Joined tt tt
+      came_at c (moved c (Renew k)) (AreAt s) (AreAt (joined_side s actions)) (Renewed k) x Joined tt (λ may rise. joins r k x.recorded may rise) tt
       (join_cluster make k r x.network x.cores ∙ ap (λ (q : Cluster). moved q (Renew k)) x.cluster)
       (join_right make k r x.network x.cores s x.sides.0 actions silent known, λ j other. sides_stay k Joined r j other (sides j) (x.sides.1 j other))
 
@@ -250,10 +255,10 @@ module _ (make : List Batch → List ℕ) (R : CoreRun → Type 0) (records : Re
       unfolding on_join serves pinged
       join_core = refl
 
-      pub joined_at : ComesTo make R (moved c (Renew k)) (AreAt (link_side (called x (calls.Join now)) won))
+      pub joined_at : ComesTo make (Renewed k) (moved c (Renew k)) (AreAt (link_side (called x (calls.Join now)) won))
       joined_at =
           let puts = (on_join l now).out.actions in
-          side_is (moved c (Renew k)) (joined_side s puts) (link_side (called x (calls.Join now)) won)
+          subst (λ (side : LinkSide). ComesTo make (Renewed k) (moved c (Renew k)) (AreAt side))
           (ap (λ (core : LinkCore). record (joined_side s puts) { core = core }) (sym join_core))
           (joins_at c s puts (ap (λ (done : List Action). flat_map frames_sent done) join_puts ∙ resign_silent l.core.role)
           (λ m. subst (λ (done : List Action). AllByRecursion (IsKnown m) done) (sym join_puts) (resign_known m l.core.role)) at)

@@ -11,19 +11,20 @@ use Rattle.law_link.specs.Links.{LinkStep, MayWrite}
 use Rattle.law_link.specs.Refusals.{AllRise, Rises}
 use Rattle.law_link.proofs.LateFrames.{IsNetwork, first_network, network_right, networks_right}
 use Rattle.law_link.proofs.LinkSteps.{all_map}
-use Rattle.law_core.specs.Core.{Came}
+use Rattle.law_core.specs.Core.{Came, Joined}
 use Rattle.law_core.specs.Runs.{Comes, CoreRun, Happens, IsOfNoLink, IsRightOf, all_steps, no_run, run_after, steps_of}
 use Rattle.law_core.proofs.CoreRuns.{cores_keep_the_rules}
 use Rattle.kr_link.specs.declared.actions.Action.{Action}
 use Rattle.kr_link.specs.declared.link.LinkSettings.{LinkSettings}
+use Rattle.kr_link.specs.LinkMoves as calls
 use Rattle.kr_link.specs.TimedLinks.{first_link}
 use Rattle.law_timed_links.specs.TimedLaws.{AreNames, IsExact, IsNodeOf, IsRunOfCores, KeepsOneLog, TimedLinksAreCores, TimedLinksKeepOneLog}
-use Rattle.law_timed_links.specs.TimedRuns.{AllMayFollow, Arrives, Gives, MayFollow, TimedEvent, TimedRun, Writes, frames_sent, timed_after, timed_start}
+use Rattle.law_timed_links.specs.TimedRuns.{AllMayFollow, Arrives, Calls, Gives, IsOfNoDaemon, MayFollow, TimedEvent, TimedRun, Writes, frames_sent, timed_after, timed_start}
 use Rattle.law_timed_links.proofs.CoreRunEnds.{IsRightRun, network_is, one_more, run_of}
 use Rattle.law_timed_links.proofs.DeedEffects.{IsKnown, exact}
-use Rattle.law_timed_links.proofs.CallSides.{RecordsAll}
+use Rattle.law_timed_links.proofs.CallSides.{RecordsAll, RecordsJoin}
 use Rattle.law_timed_links.proofs.DaemonEvents.{Keeps, arrive_keeps, give_keeps, write_keeps}
-use Rattle.law_timed_links.proofs.TimedRuns.{IsBeside, RecordsStore, link_beside}
+use Rattle.law_timed_links.proofs.TimedRuns.{IsBeside, RecordsStore, Then, link_beside}
 
 -- ---- with any record
 
@@ -52,7 +53,10 @@ first_keeps name settings = record {
 
 module _ (make : List Batch → List ℕ) (name : ℕ → ℕ → ℕ) (names : AreNames name) where
   records : RecordsAll make (IsRightRun make)
-  records r k came recorded right may rise = one_more make r (Comes k came) recorded right rise
+  records r k came free recorded right may rise = one_more make r (Comes k came) recorded right rise
+
+  joins : RecordsJoin make (IsRightRun make) (λ (k : ℕ). IsRightRun make)
+  joins r k recorded may rise = one_more make r (Comes k Joined) recorded tt rise
 
   stores : RecordsStore make (IsRightRun make)
   stores r step recorded is may rise = one_more make r (Happens (Act step)) recorded (is, may) (rise, tt)
@@ -69,6 +73,12 @@ module _ (make : List Batch → List ℕ) (name : ℕ → ℕ → ℕ) (names : 
         beside_of make (IsRightRun make) name u b.won (run_after r (Happens step)) (one_more make r (Happens step) b.cores.recorded (is, may) (rise, tt))
         (network_right make r.network step b.cores.network may).2 k
 
+    abbrev linked_type : TimedEvent → Type 0
+    linked_type event = IsBeside make (Then (IsRightRun make) (λ (k : ℕ). IsRightRun make) event) name (timed_after t event)
+
+    linked : (event : TimedEvent) → IsOfNoDaemon event → MayFollow make name t event → linked_type event
+    linked event is may = link_beside make (IsRightRun make) (λ (k : ℕ). IsRightRun make) name names records joins stores t b event is may
+
     event_beside : (event : TimedEvent) → MayFollow make name t event → Is (timed_after t event)
     event_beside (Arrives k frame rest) may =
         let sent = flat_map frames_sent (t.nodes k).link.out.actions in
@@ -80,7 +90,8 @@ module _ (make : List Batch → List ℕ) (name : ℕ → ℕ → ℕ) (names : 
     event_beside (Gives k image) may =
         happens (timed_after t (Gives k image)) (Snapshot k image) tt (subst (λ (q : Cluster). MaySnapshot make q.point k (q.nodes k) image) (sym b.cores.cluster) may) tt
         (give_keeps name t b.won r (keeps_of make (IsRightRun make) name t b) k image)
-    event_beside event may = link_beside make (IsRightRun make) name names records stores t b event tt may
+    event_beside (Calls k (calls.Join now)) may = linked (Calls k (calls.Join now)) tt may
+    event_beside event may = linked event tt may
 
   events_beside : (t : TimedRun) (events : List TimedEvent) → Is t → AllMayFollow make name t events → Is (fold timed_after t events)
   events_beside t [] b a = b

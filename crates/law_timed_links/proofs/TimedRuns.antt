@@ -29,11 +29,11 @@ use Rattle.kr_link.specs.Roles.{held_of}
 use Rattle.kr_link.specs.TimedLinks.{TimedLink, campaign_of, first_link}
 use Rattle.kr_link.proofs.LinkMoves.{calls_are_moves}
 use Rattle.law_timed_links.specs.TimedLaws.{AreNames}
-use Rattle.law_timed_links.specs.TimedRuns.{AllMayFollow, Arrives, Calls, CallsFor, Changes, Gives, IsRightCall, IsSeenAppend, IsUncalled, LinkedNode, MayFollow, Reaches, Restarts, Takes, TimedEvent, TimedRun, Writes, called, cluster_moves, timed_start, frames_sent, restarted, timed_after, with_done}
+use Rattle.law_timed_links.specs.TimedRuns.{AllMayFollow, Arrives, Calls, CallsFor, Changes, Gives, IsOfNoDaemon, IsRightCall, IsSeenAppend, IsUncalled, LinkedNode, MayFollow, Reaches, Restarts, Takes, TimedEvent, TimedRun, Writes, called, cluster_moves, timed_start, frames_sent, restarted, timed_after, with_done}
 use Rattle.law_timed_links.proofs.DeedEffects.{IsKnown, IsOwnAppend}
 use Rattle.law_timed_links.proofs.Campaigns.{Goes, IsBelow, IsNoWin, answered, awaits_after, goes, unanswered, was_awaited}
 use Rattle.law_timed_links.proofs.Sides.{AllSides, AreSides, LinkSide, core_side, link_side, side_of}
-use Rattle.law_timed_links.proofs.CallSides.{AreAt, ComesTo, RecordsAll, so_too, joined_at, joins_at, plain_at, win_at, wrote_at}
+use Rattle.law_timed_links.proofs.CallSides.{AreAt, ComesTo, RecordsAll, RecordsJoin, so_too, joined_at, joins_at, plain_at, win_at, wrote_at}
 use Rattle.law_timed_links.proofs.WonEpochs.{CountedAt, IsCalledIn, IsCounted, above_won, called_right, done_right, restarted_right, stored_right, won_right}
 
 some_of : (o : Option LinkCampaign) → (o ≡ None → ⊥) → (it : LinkCampaign) × (o ≡ Some it)
@@ -44,24 +44,23 @@ point_stays : (c : Cluster) (k : ℕ) (call : LinkCall) → c.point ≡ (fold mo
 point_stays c k (calls.Join now) = refl
 point_stays c k other = refl
 
--- of links or of the store
-abbrev pub IsOfNoDaemon : TimedEvent → Type 0
-IsOfNoDaemon (Arrives k frame rest) = ⊥
-IsOfNoDaemon (Writes k b) = ⊥
-IsOfNoDaemon (Gives k image) = ⊥
-IsOfNoDaemon other = Unit {0}
-
 -- it is recorded that the store did something
 abbrev pub RecordsStore : (List Batch → List ℕ) → (CoreRun → Type 0) → Type 0
 RecordsStore make R = (r : CoreRun) (step : LinkStep) → R r → IsOfNoLink (Act step) → MayAct make r.network step → Rises r.network (Act step) → R (run_after r (Happens (Act step)))
 
-module _ (make : List Batch → List ℕ) (R : CoreRun → Type 0) (name : ℕ → ℕ → ℕ) where
-  pub record IsBeside (t : TimedRun) : Type 0 where
-    pub won : ℕ → List ℕ
-    pub cores : ComesTo make R t.cluster (AllSides t.nodes won)
-    pub counted : (k : ℕ) → CountedAt name t.cluster.point k (t.nodes k) (won k)
+pub record IsBeside (make : List Batch → List ℕ) (R : CoreRun → Type 0) (name : ℕ → ℕ → ℕ) (t : TimedRun) : Type 0 where
+  pub won : ℕ → List ℕ
+  pub cores : ComesTo make R t.cluster (AllSides t.nodes won)
+  pub counted : (k : ℕ) → CountedAt name t.cluster.point k (t.nodes k) (won k)
 
-  module _ (names : AreNames name) (records : RecordsAll make R) (stores : RecordsStore make R) (t : TimedRun) (b : IsBeside t) where
+-- what is recorded behind an event
+abbrev pub Then : (CoreRun → Type 0) → (ℕ → CoreRun → Type 0) → TimedEvent → CoreRun → Type 0
+Then R Renewed (Calls k (calls.Join now)) = Renewed k
+Then R Renewed (Restarts k settings) = Renewed k
+Then R Renewed other = R
+
+module _ (make : List Batch → List ℕ) (R : CoreRun → Type 0) (Renewed : ℕ → CoreRun → Type 0) (name : ℕ → ℕ → ℕ) where
+  module _ (names : AreNames name) (records : RecordsAll make R) (joins : RecordsJoin make R Renewed) (stores : RecordsStore make R) (t : TimedRun) (b : IsBeside make R name t) where
     abbrev c : Cluster
     c = t.cluster
 
@@ -81,16 +80,16 @@ module _ (make : List Batch → List ℕ) (R : CoreRun → Type 0) (name : ℕ �
       l = x.link
 
       abbrev At : LinkSide → CoreRun → Type 0
-      At s = AreAt make R records k side s
+      At s = AreAt make R Renewed records joins k side s
 
       at_first : ComesTo make R c (At (side k))
       at_first = so_too make R c (AllSides t.nodes b.won) (At (side k)) b.cores (λ all. (all k, λ j other. all j))
 
-      one_node : (d : Cluster) (y : LinkedNode) (won : List ℕ) → p ≡ d.point → ComesTo make R d (At (link_side y won)) → CountedAt name p k y won
-          → IsBeside (record { cluster = d; nodes = set_at k y t.nodes })
-      one_node d y won same cores counted = record {
+      one_node : (S : CoreRun → Type 0) (d : Cluster) (y : LinkedNode) (won : List ℕ) → p ≡ d.point → ComesTo make S d (At (link_side y won)) → CountedAt name p k y won
+          → IsBeside make S name (record { cluster = d; nodes = set_at k y t.nodes })
+      one_node S d y won same cores counted = record {
         won = set_at k won b.won;
-        cores = so_too make R d (At (link_side y won)) (AllSides (set_at k y t.nodes) (set_at k won b.won)) cores (λ a j. each a.0 a.1 j);
+        cores = so_too make S d (At (link_side y won)) (AllSides (set_at k y t.nodes) (set_at k won b.won)) cores (λ a j. each a.0 a.1 j);
         counted = λ j. subst (λ (q : Point). CountedAt name q j (set_at k y t.nodes j) (set_at k won b.won j)) same
             (at_node k (λ i u. CountedAt name p i (cond u y (t.nodes i)) (cond u won (b.won i))) counted b.counted j);
       }
@@ -122,23 +121,23 @@ module _ (make : List Batch → List ℕ) (R : CoreRun → Type 0) (name : ℕ �
           }
 
       call_sides : (call : LinkCall) → IsNoWin call → IsRightCall make name t k call
-          → ComesTo make R (fold moved c (cluster_moves (Calls k call))) (At (link_side (called x call) (b.won k)))
-      call_sides (calls.Join now) free right = joined_at make R records k side c x (b.won k) at_first now right
-      call_sides (calls.Write batch) free (rest, piped) = wrote_at make R records k side c x (b.won k) at_first batch rest piped
+          → ComesTo make (Then R Renewed (Calls k call)) (fold moved c (cluster_moves (Calls k call))) (At (link_side (called x call) (b.won k)))
+      call_sides (calls.Join now) free right = joined_at make R Renewed records joins k side c x (b.won k) at_first now right
+      call_sides (calls.Write batch) free (rest, piped) = wrote_at make R Renewed records joins k side c x (b.won k) at_first batch rest piped
       call_sides (calls.Win token held) free right = absurd free
       call_sides (calls.Stand made base) free right =
-          plain_at make R records k side c (side k) (Stood made base) (core_work l) (core_work (link_after l (calls.Stand made base))) tt (calls_are_moves l (calls.Stand made base)) at_first
+          plain_at make R Renewed records joins k side c (side k) (Stood made base) (core_work l) (core_work (link_after l (calls.Stand made base))) tt (calls_are_moves l (calls.Stand made base)) at_first
           (stood_right made base right)
       call_sides (calls.Find batch now) free right =
-          plain_at make R records k side c (side k) (Found batch) (core_work l) (core_work (link_after l (calls.Find batch now))) tt (calls_are_moves l (calls.Find batch now)) at_first
+          plain_at make R Renewed records joins k side c (side k) (Found batch) (core_work l) (core_work (link_after l (calls.Find batch now))) tt (calls_are_moves l (calls.Find batch now)) at_first
           (subst (λ (q : Cluster). BatchStandsAt q.point.log batch.base batch) (sym at_first.cluster) right)
       call_sides (calls.FindImage image now) free right =
-          plain_at make R records k side c (side k) (FoundImage image) (core_work l) (core_work (link_after l (calls.FindImage image now))) tt (calls_are_moves l (calls.FindImage image now)) at_first
+          plain_at make R Renewed records joins k side c (side k) (FoundImage image) (core_work l) (core_work (link_after l (calls.FindImage image now))) tt (calls_are_moves l (calls.FindImage image now)) at_first
           (subst (λ (q : Cluster). ImageStandsFor make q.point.log image) (sym at_first.cluster) right)
       call_sides (calls.Give image) free right =
-          plain_at make R records k side c (side k) (Imaged l.seen.image image) (core_work l) (core_work (link_after l (calls.Give image))) tt (calls_are_moves l (calls.Give image)) at_first
+          plain_at make R Renewed records joins k side c (side k) (Imaged l.seen.image image) (core_work l) (core_work (link_after l (calls.Give image))) tt (calls_are_moves l (calls.Give image)) at_first
           (subst (λ (images : List StoredImage). Has image images) (sym at_first.sides.0.images) right)
-      call_sides call free right = plain_at make R records k side c (side k) Over (core_work l) (core_work (link_after l call)) tt (calls_are_moves l call) at_first tt
+      call_sides call free right = plain_at make R Renewed records joins k side c (side k) Over (core_work l) (core_work (link_after l call)) tt (calls_are_moves l call) at_first tt
 
       goes_on : (call : LinkCall) → Goes (core_work l) (core_work (link_after l call))
       goes_on call = goes (calls.came_with l call) (core_work l) (core_work (link_after l call)) (calls_are_moves l call)
@@ -149,9 +148,9 @@ module _ (make : List Batch → List ℕ) (R : CoreRun → Type 0) (name : ℕ �
           (link_after l call).campaigns.next (link_after l call).campaigns.under_way (link_after l call).out.actions (goes_on call).next
           ((goes_on call).below (b.counted k).below) (awaits_after l call free)
 
-      called_beside : (call : LinkCall) → IsNoWin call → IsRightCall make name t k call → IsBeside (timed_after t (Calls k call))
+      called_beside : (call : LinkCall) → IsNoWin call → IsRightCall make name t k call → IsBeside make (Then R Renewed (Calls k call)) name (timed_after t (Calls k call))
       called_beside call free right =
-          one_node (fold moved c (cluster_moves (Calls k call))) (called x call) (b.won k) (point_stays c k call) (call_sides call free right) (call_counted call free)
+          one_node (Then R Renewed (Calls k call)) (fold moved c (cluster_moves (Calls k call))) (called x call) (b.won k) (point_stays c k call) (call_sides call free right) (call_counted call free)
 
       module _ (token : ℕ) (held : KrHeld) (took : TookLeadership p.leaderships k (held_of held)) (named : took.leadership.token ≡ name x.life token) where
         abbrev then : TimedLink
@@ -170,10 +169,10 @@ module _ (make : List Batch → List ℕ) (R : CoreRun → Type 0) (name : ℕ �
           subst (λ (q : Cluster). TookLeadership q.point.leaderships k (held_of held)) (sym at_first.cluster) took,
         )
 
-        win_beside : IsBeside (timed_after t (Calls k (calls.Win token held)))
+        win_beside : IsBeside make R name (timed_after t (Calls k (calls.Win token held)))
         win_beside =
-            let w = win_at make R records k side c x (b.won k) at_first then held (campaign_of l token) (calls_are_moves l (calls.Win token held)) (λ it e. (won_once it e, (above it e).0)) in
-            one_node c (called x (calls.Win token held)) w.won_then refl w.at_then (counted w.won_then w.how)
+            let w = win_at make R Renewed records joins k side c x (b.won k) at_first then held (campaign_of l token) (calls_are_moves l (calls.Win token held)) (λ it e. (won_once it e, (above it e).0)) in
+            one_node R c (called x (calls.Win token held)) w.won_then refl w.at_then (counted w.won_then w.how)
           where
             counted : (won : List ℕ) → (won ≡ b.won k) ⊎ ((campaign_of l token ≡ None → ⊥) × (won ≡ held.epoch ∷ b.won k)) → CountedAt name p k (called x (calls.Win token held)) won
             counted won (inl same) =
@@ -188,7 +187,7 @@ module _ (make : List Batch → List ℕ) (R : CoreRun → Type 0) (name : ℕ �
                 held.epoch then.campaigns.next then.campaigns.under_way then.out.actions (above it.0 it.1).1 (goes_on (calls.Win token held)).next
                 ((goes_on (calls.Win token held)).below (b.counted k).below) (answered l token held some))
 
-      call_beside : (call : LinkCall) → IsRightCall make name t k call → IsBeside (timed_after t (Calls k call))
+      call_beside : (call : LinkCall) → IsRightCall make name t k call → IsBeside make (Then R Renewed (Calls k call)) name (timed_after t (Calls k call))
       call_beside (calls.Win token held) (took, named) = win_beside token held took named
       call_beside call right = called_beside call tt right
 
@@ -209,17 +208,17 @@ module _ (make : List Batch → List ℕ) (R : CoreRun → Type 0) (name : ℕ �
               asked = a.asked;
             }
 
-        done_beside : IsBeside (timed_after t (Takes k action rest))
+        done_beside : IsBeside make R name (timed_after t (Takes k action rest))
         done_beside =
-            one_node c (with_done x action rest) (b.won k) refl
+            one_node R c (with_done x action rest) (b.won k) refl
             (so_too make R c (At (side k)) (At (link_side (with_done x action rest) (b.won k))) at_first (λ a. (done_sides at_first.run a.0, a.1)))
             (done_right name k p.keys.epoch p.leaderships x.life x.done l.campaigns.next l.campaigns.under_way l.out.actions (b.won k) (b.counted k) action rest
             (subst (λ (puts : List Action). AllByRecursion (IsBelow l.campaigns.next) puts) first (b.counted k).below))
 
-      restart_beside : (settings : LinkSettings) → IsBeside (timed_after t (Restarts k settings))
+      restart_beside : (settings : LinkSettings) → IsBeside make (Renewed k) name (timed_after t (Restarts k settings))
       unfolding first_link
       restart_beside settings =
-          one_node (moved c (Renew k)) (restarted x settings) (b.won k) refl (joins_at make R records k side c (side k) [] refl (λ m. tt) at_first)
+          one_node (Renewed k) (moved c (Renew k)) (restarted x settings) (b.won k) refl (joins_at make R Renewed records joins k side c (side k) [] refl (λ m. tt) at_first)
           (restarted_right name k p.keys.epoch p.leaderships x.life x.done l.campaigns.next l.campaigns.under_way l.out.actions (b.won k) (b.counted k))
 
     -- ---- the store
@@ -252,7 +251,7 @@ module _ (make : List Batch → List ℕ) (R : CoreRun → Type 0) (name : ℕ �
     makes change free = stores_one (Make change) (moved c (Store change)) tt free tt b.cores.cores (ap (λ (q : Cluster). moved q (Store change)) b.cores.cluster) b.cores.sides
 
     stored : (change : Change) → ComesTo make R (moved c (Store change)) All → ((j : ℕ) → IsCalledIn name j (t.nodes j).done change)
-        → IsBeside (record { cluster = moved c (Store change); nodes = t.nodes })
+        → IsBeside make R name (record { cluster = moved c (Store change); nodes = t.nodes })
     stored change cores is = record {
       won = b.won;
       cores = cores;
@@ -263,7 +262,7 @@ module _ (make : List Batch → List ℕ) (R : CoreRun → Type 0) (name : ℕ �
     other_change : (some other : Change) → some ≡ other → ComesTo make R (moved c (Store some)) All → ComesTo make R (moved c (Store other)) All
     other_change some other e x = subst (λ (y : Change). ComesTo make R (moved c (Store y)) All) e x
 
-    reaches : (k life : ℕ) (action : Action) (change : Change) → Has (life, action) (t.nodes k).done → CallsFor name k life action change → IsBeside (timed_after t (Reaches k life action change))
+    reaches : (k life : ℕ) (action : Action) (change : Change) → Has (life, action) (t.nodes k).done → CallsFor name k life action change → IsBeside make R name (timed_after t (Reaches k life action change))
     reaches k life (actions.Append guard batches) change has is =
         let n = b.cores.run.network in
         let own : IsOwnAppend (n.web.links k).calls guard.made batches =
@@ -283,13 +282,13 @@ module _ (make : List Batch → List ℕ) (R : CoreRun → Type 0) (name : ℕ �
         (λ same. record { life = life; number = token; has = subst (λ (i : ℕ). Has (life, actions.Campaign token) (t.nodes i).done) same has; named = refl }))
     reaches k life other change has is = absurd is
 
-    changes : (change : Change) → IsUncalled change → IsBeside (timed_after t (Changes change))
+    changes : (change : Change) → IsUncalled change → IsBeside make R name (timed_after t (Changes change))
     changes Expire is = stored Expire (makes Expire tt) (λ j. tt)
     changes Other is = stored Other (makes Other tt) (λ j. tt)
     changes _ is = absurd is
 
     -- a link or the store does something
-    pub link_beside : (event : TimedEvent) → IsOfNoDaemon event → MayFollow make name t event → IsBeside (timed_after t event)
+    pub link_beside : (event : TimedEvent) → IsOfNoDaemon event → MayFollow make name t event → IsBeside make (Then R Renewed event) name (timed_after t event)
     link_beside (Calls k call) is may = call_beside k call may
     link_beside (Takes k action rest) is may = done_beside k action rest may
     link_beside (Restarts k settings) is may = restart_beside k settings

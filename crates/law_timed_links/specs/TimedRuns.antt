@@ -49,6 +49,13 @@ pub data TimedEvent : Type 0 where
   Writes : ℕ → Batch → TimedEvent
   Gives : ℕ → StoredImage → TimedEvent
 
+-- of links or of the store
+abbrev pub IsOfNoDaemon : TimedEvent → Type 0
+IsOfNoDaemon (Arrives k frame rest) = ⊥
+IsOfNoDaemon (Writes k b) = ⊥
+IsOfNoDaemon (Gives k image) = ⊥
+IsOfNoDaemon other = Unit {0}
+
 -- ---- what an event does
 
 -- what an action sends that hands over something of the log

@@ -1,0 +1,3 @@
+mod Examples
+pub mod LinkTurns
+pub mod Turns
