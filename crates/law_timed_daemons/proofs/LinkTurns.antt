@@ -9,7 +9,7 @@ use Rattle.law_quorum.specs.Batches.{Batch as StoredBatch}
 use Rattle.law_link.specs.Frames.{Act, AllMayHappen, MayAct, Network, network_after, set_at}
 use Rattle.law_link.specs.Links.{Clear, Execute, LinkStep, Make}
 use Rattle.law_link.specs.Refusals.{AllRise, Rises}
-use Rattle.law_core.specs.Core.{Came, Deed, Joined, Serve, core_step, resigning}
+use Rattle.law_core.specs.Core.{Deed, Joined, Serve, core_step, resigning}
 use Rattle.law_core.specs.Runs.{Comes, CoreRun, Happens, IsOfNoLink, acts, behind_first, run_after, step_of}
 use Rattle.law_nodes.specs.Nodes.{NodeTold, RunNode, fresh_node}
 use Rattle.law_one_log.specs.Daemons.{AllMayTurn, Link, System, SystemTurn, no_system, turned, with_new}

@@ -37,9 +37,6 @@ put_actions (action ∷ more) out = put_actions more (put_one out action) ∙ ap
 
 -- actions that hand over nothing of the log, and change nothing of it but what is known
 module _ (v : CoreSide) (s : LinkSide) (a : AreSides v s) (more : List Action) (silent : flat_map frames_sent more ≡ []) (known : AllByRecursion (IsKnown v.link) more) where
-  abbrev pub with_more : LinkSide
-  with_more = record s { actions = s.actions ++ more }
-
   same_frames : s.frames ++ flat_map frames_sent s.actions ≡ s.frames ++ flat_map frames_sent (s.actions ++ more)
   same_frames =
       ap (λ (fs : List Frame). s.frames ++ fs)

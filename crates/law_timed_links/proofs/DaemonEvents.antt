@@ -1,13 +1,13 @@
 -- What daemons do keeps each node beside a run of cores.
-use Rattle.std.proofs.Common.{◌≡◌, ◌∙◌, sym, ℕ, Bool, true, false, cond, List, [], ◌∷◌, ◌++◌, refl, ap, subst}
-use Rattle.std.specs.Prelude.{flat_map, nat_eq}
+use Rattle.std.proofs.Common.{◌≡◌, ◌∙◌, ℕ, Bool, true, false, cond, List, [], ◌∷◌, ◌++◌, refl, ap, subst}
+use Rattle.std.specs.Prelude.{flat_map}
 use Rattle.law_quorum.specs.Batches.{Batch, StoredImage}
 use Rattle.law_quorum.specs.History.{Point}
 use Rattle.law_quorum.specs.Nodes.{Cluster, Node, Write, moved}
 use Rattle.law_link.specs.Frames.{Arrive, Commit, Emit, Feed, Frame, Lead, Load, Lost, Network, Snapshot, daemons_of, emitted, leads_epoch, move_of, network_after, set_at}
 use Rattle.law_link.specs.Links.{Link, stepped}
 use Rattle.law_link.proofs.LateFrames.{at_node}
-use Rattle.law_core.specs.Core.{Elected, Leading, LinkCore, Role, Standby}
+use Rattle.law_core.specs.Core.{Elected, Leading, Role, Standby}
 use Rattle.law_core.specs.Runs.{CoreRun, Happens, run_after}
 use Rattle.law_core.proofs.CoreSteps.{IsCore, IsRole}
 use Rattle.law_timed_links.specs.TimedRuns.{Arrives, Gives, LinkedNode, TimedRun, Writes, frames_sent, timed_after}

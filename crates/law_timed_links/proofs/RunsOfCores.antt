@@ -1,18 +1,17 @@
 -- Each run of links by their clocks is beside a run of cores that are told only what is right.
 use Rattle.std.proofs.Common.{◌≡◌, ◌∙◌, sym, ℕ, List, [], ◌∷◌, ◌++◌, refl, ap, subst}
 use Rattle.std.specs.Prelude.{flat_map, fold}
-use Rattle.std.specs.List.{AllByRecursion}
-use Rattle.law_quorum.specs.Batches.{Batch, StoredImage}
+use Rattle.law_quorum.specs.Batches.{Batch}
 use Rattle.law_quorum.specs.Laws.{IsInOrder, IsOneLog}
 use Rattle.law_quorum.specs.NodeLaws.{IsFedNode}
 use Rattle.law_quorum.specs.Nodes.{Cluster}
-use Rattle.law_link.specs.Frames.{Act, AllMayHappen, Arrive, Emit, Frame, MayAct, MayHappen, MaySnapshot, Network, NetworkStep, Snapshot, daemons_of, network_after, no_network}
-use Rattle.law_link.specs.Links.{LinkStep, MayWrite}
-use Rattle.law_link.specs.Refusals.{AllRise, Rises}
+use Rattle.law_link.specs.Frames.{Act, Arrive, Emit, Frame, MayHappen, MaySnapshot, Network, NetworkStep, Snapshot, daemons_of, network_after, no_network}
+use Rattle.law_link.specs.Links.{MayWrite}
+use Rattle.law_link.specs.Refusals.{Rises}
 use Rattle.law_link.proofs.LateFrames.{IsNetwork, first_network, network_right, networks_right}
 use Rattle.law_link.proofs.LinkSteps.{all_map}
-use Rattle.law_core.specs.Core.{Came, Joined}
-use Rattle.law_core.specs.Runs.{Comes, CoreRun, Happens, IsOfNoLink, IsRightOf, all_steps, no_run, run_after, steps_of}
+use Rattle.law_core.specs.Core.{Joined}
+use Rattle.law_core.specs.Runs.{Comes, CoreRun, Happens, IsOfNoLink, all_steps, no_run, run_after}
 use Rattle.law_core.proofs.CoreRuns.{cores_keep_the_rules}
 use Rattle.kr_link.specs.declared.actions.Action.{Action}
 use Rattle.kr_link.specs.declared.link.LinkSettings.{LinkSettings}

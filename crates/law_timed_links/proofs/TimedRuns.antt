@@ -7,9 +7,7 @@ use Rattle.std.specs.List.{AllByRecursion}
 use Rattle.law_quorum.specs.Batches.{Batch, StoredImage, BatchStandsAt, ImageStandsFor}
 use Rattle.law_quorum.specs.Changes.{Append, Campaign, Change, Drop, Expire, Other}
 use Rattle.law_quorum.specs.History.{Point}
-use Rattle.law_quorum.specs.Laws.{IsOneLog, IsInOrder}
-use Rattle.law_quorum.specs.NodeLaws.{IsFedNode}
-use Rattle.law_quorum.specs.Nodes.{Cluster, Renew, Store, Write, moved}
+use Rattle.law_quorum.specs.Nodes.{Cluster, Renew, Store, moved}
 use Rattle.law_link.specs.Frames.{Act, MayAct, daemons_of, network_after, set_at}
 use Rattle.law_link.specs.Refusals.{Rises}
 use Rattle.law_link.specs.Links.{Call, Clear, Execute, Has, IsFree, Keep, LinkStep, Make, TookLeadership, append_of}
@@ -29,12 +27,12 @@ use Rattle.kr_link.specs.Roles.{held_of}
 use Rattle.kr_link.specs.TimedLinks.{TimedLink, campaign_of, first_link}
 use Rattle.kr_link.proofs.LinkMoves.{calls_are_moves}
 use Rattle.law_timed_links.specs.TimedLaws.{AreNames}
-use Rattle.law_timed_links.specs.TimedRuns.{AllMayFollow, Arrives, Calls, CallsFor, Changes, Gives, IsOfNoDaemon, IsRightCall, IsSeenAppend, IsUncalled, LinkedNode, MayFollow, Reaches, Restarts, Takes, TimedEvent, TimedRun, Writes, called, cluster_moves, timed_start, frames_sent, restarted, timed_after, with_done}
+use Rattle.law_timed_links.specs.TimedRuns.{Calls, CallsFor, Changes, IsOfNoDaemon, IsRightCall, IsSeenAppend, IsUncalled, LinkedNode, MayFollow, Reaches, Restarts, Takes, TimedEvent, TimedRun, called, cluster_moves, frames_sent, restarted, timed_after, with_done}
 use Rattle.law_timed_links.proofs.DeedEffects.{IsKnown, IsOwnAppend}
 use Rattle.law_timed_links.proofs.Campaigns.{Goes, IsBelow, IsNoWin, answered, awaits_after, goes, unanswered, was_awaited}
-use Rattle.law_timed_links.proofs.Sides.{AllSides, AreSides, LinkSide, core_side, link_side, side_of}
+use Rattle.law_timed_links.proofs.Sides.{AllSides, AreSides, LinkSide, core_side, link_side}
 use Rattle.law_timed_links.proofs.CallSides.{AreAt, ComesTo, RecordsAll, RecordsJoin, so_too, joined_at, joins_at, plain_at, win_at, wrote_at}
-use Rattle.law_timed_links.proofs.WonEpochs.{CountedAt, IsCalledIn, IsCounted, above_won, called_right, done_right, restarted_right, stored_right, won_right}
+use Rattle.law_timed_links.proofs.WonEpochs.{CountedAt, IsCalledIn, above_won, called_right, done_right, restarted_right, stored_right, won_right}
 
 some_of : (o : Option LinkCampaign) → (o ≡ None → ⊥) → (it : LinkCampaign) × (o ≡ Some it)
 some_of None f = absurd (f refl)
