@@ -13,7 +13,7 @@ run: tools
 start:
 	@tools/start
 
-demo: tools
+demo:
 	@tools/demo
 
 cluster:
