@@ -258,14 +258,11 @@ module _ (folds : List StoredImage) (w : Web) (s : TapeState) (h : Shows w s) (w
   is_none_more list e = ap is_empty e ∙ eq_true zero zero refl
 
   ask_allowed : (e : Held) (group : List Batch) → act_fault folds s.store k side (acts.Ask e group) ≡ None → IsPossible (fold_of folds) w (steps.Ask k e group (drop (length group) l.waits))
-  ask_allowed e [] f = absurd (no_group f)
-    where
-      no_group : act_fault folds s.store k side (acts.Ask e []) ≡ None → ⊥
-      no_group f =
-          let a = passes faults.NotHeld _ _ f in
-          let b = passes faults.NotLeading _ _ a.1 in
-          let c = passes faults.UnderWay _ _ b.1 in
-          let d = passes faults.Empty (is_empty []) (cond (not (begins_with side.link.waits [])) (Some faults.NotNext) None) c.1 in true_or_not (is_empty []) (eq_true zero zero refl) d.0
+  ask_allowed e [] f =
+      let a = passes faults.NotHeld _ _ f in
+      let b = passes faults.NotLeading _ _ a.1 in
+      let c = passes faults.UnderWay _ _ b.1 in
+      let d = passes faults.Empty (is_empty []) (cond (not (begins_with side.link.waits [])) (Some faults.NotNext) None) c.1 in absurd (true_or_not (is_empty []) (eq_true zero zero refl) d.0)
   ask_allowed e (first ∷ others) f =
       let a = passes faults.NotHeld _ _ f in
       let b = passes faults.NotLeading _ _ a.1 in

@@ -52,13 +52,21 @@ pub enum LinkAct {
     /// It passed over a batch of the daemon.
     Pass(TapeBatch),
     /// It called for an append of batches.
-    Ask { held: HeldLeadership, group: Rows<TapeBatch> },
+    Ask {
+        held: HeldLeadership,
+        group: Rows<TapeBatch>,
+    },
     /// It committed them, up to the place.
-    Settle { held: HeldLeadership, end: u64 },
+    Settle {
+        held: HeldLeadership,
+        end: u64,
+    },
     /// The daemon gave an image, and the link called for it to be kept.
     Give(Keep),
     /// It gave up a leadership of which its daemon was told.
-    GiveUp { epoch: u64 },
+    GiveUp {
+        epoch: u64,
+    },
     /// It gave up one of which its daemon wasn't told.
     LetGo,
     /// Another daemon took the place of the node's.
